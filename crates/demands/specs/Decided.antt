@@ -1,0 +1,13 @@
+-- Document 01, 'What the contracts must decide': that no second answer fits.
+use Prim.Native.Nat.{ℕ}
+use mathlib.Core.Path.{_≡_}
+use mathlib.Core.List.{List}
+use contract.Lifetimes.{Lfts}
+use borrow.Fn.Kinds.{PK, RK, Dens, resT, endedOf, Out}
+use denote.Triple.Clauses.{AtExit}
+
+-- Two answers that a function's contract allows for the same arguments are one. `told` is what the contract tells a caller of an answer,
+-- as the checker reads it off the source.
+abbrev pub Decided : {n : ℕ} (ps : List (PK n)) (r : RK n) → Out n ps r → Type 0
+Decided {n} ps r told =
+    (κs : Lfts n) (a : Dens κs ps) (x y : resT r κs .Denot) (e f : AtExit (endedOf n ps r) κs) → told κs a x e → told κs a y f → x ≡ y

@@ -1,0 +1,11 @@
+use Rattle.arith.proofs.Signed.{read32, both-ways}
+use Rattle.section.proofs.load_right.Statement.{statement}
+use Rattle.section.proofs.load_right.Tie as tie
+use Rattle.section.proofs.load_right.Reads as reads
+use Rattle.section.proofs.load_right.Lts as lts
+
+returns : tie.Need-returns
+returns c = rw (read32 (c .fits .load)) (both-ways 9999999 (c .args .load))
+
+pub load-right-spec : {M : Type 1} → statement M
+load-right-spec = tie.close (tie.spec returns)

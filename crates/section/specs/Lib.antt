@@ -1,0 +1,4 @@
+pub mod Section
+pub mod Refusal
+pub mod Added
+pub mod Accepted

@@ -1,0 +1,35 @@
+-- Document 01, 'What is refused, tested in this order': 7 to 13, and what an accepted section is.
+use Prim.Native.Nat.{ℕ, _+_, _*_, _-_, _%_, _≤_, _<_}
+use mathlib.Core.Path.{_≡_}
+use mathlib.Core.Bool.{Bool, cond, _&&_, _||_}
+use lib.Dec.{ltb, leb, eqb}
+use lib.IntN.{natAbs}
+use Rattle.section.specs.declared.Section.{Section}
+use Rattle.section.specs.Section.{layerAt, layersRight}
+
+-- a line of the table: its number where its test fails, else what the lines below it say
+abbrev pub line : Bool → ℕ → ℕ → ℕ
+line passes number below = cond passes below number
+
+abbrev pub within : ℕ → ℕ → ℕ → Bool
+within low high n = leb low n && leb n high
+
+-- Table 1 of document 002: 20, 25, 30, 35, 40, 45, 50
+abbrev pub inTable : ℕ → Bool
+inTable fck = within 20 50 fck && eqb (fck % 5) 0
+
+-- where there are bars, twice the deepest's depth is more than h
+unfoldable pub midRight : Section → Bool
+midRight s = eqb (s .count) 0 || ltb (s .h) (2 * layerAt (s .layers) (s .count - 1) .depth)
+
+-- 0 where every line passes
+unfoldable pub sectionRefusal : Section → ℕ
+sectionRefusal s =
+    line (inTable (s .fck)) 7
+    (line (within 50 2000 (s .b) && within 50 1000 (s .h)) 8
+    (line (within 400 600 (s .fyk)) 9
+    (line (leb (s .feq2) 20000 && leb (s .feq3) 20000) 10
+    (line (leb (natAbs (s .load)) 10000000) 11
+    (line (layersRight s && midRight s) 12
+    (line (eqb (s .asw) 0 || ltb 0 (s .spacing)) 13
+    0))))))

@@ -1,0 +1,3 @@
+//! Document 01's rules written a second time, in another style, and the C face held to them.
+pub mod held;
+pub mod rules;
