@@ -1,6 +1,6 @@
 -- Climbing the ladder: since the steps rise, the last one that is at most f is the largest. Assumes nothing.
 use Prim.Native.Nat.{ℕ, _<_, _≤_, _+_, max}
-use mathlib.Core.Path.{_≡_, refl, sym, _∙_, ap}
+use mathlib.Core.Path.{_≡_, refl, _∙_, ap}
 use mathlib.Core.Bool.{cond, _&&_}
 use mathlib.Core.List.{List, _∷_}
 use native.Mathlib.Omega.{arith}

@@ -1,5 +1,5 @@
 -- No second answer fits, for each public function. Each contract says that the answer is one definition's, so a line each. Assumes nothing.
-use mathlib.Core.Path.{_≡_, sym, _∙_}
+use mathlib.Core.Path.{sym, _∙_}
 use Rattle.section.proofs.Section.refusal.Kinds as Refusal
 use Rattle.section.proofs.Section.refusal.Reads as RefusalReads
 use Rattle.section.proofs.Section.with_layer.Kinds as WithLayer

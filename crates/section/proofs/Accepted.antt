@@ -1,7 +1,7 @@
 -- A section is accepted exactly where 7 to 13 pass. Assumes nothing.
 use Prim.Native.Nat.{ℕ, zero, suc, _*_, _-_, _%_, _≤_, _<_}
 use mathlib.Core.Path.{_≡_, refl}
-use mathlib.Core.Bool.{Bool, true, false, _&&_, _||_}
+use mathlib.Core.Bool.{Bool, true, _&&_, _||_}
 use mathlib.Core.Logic.{_↔_}
 use native.Mathlib.Omega.{arith}
 use borrow.Author.Tests.{ltb-true, leb-true, eqb-true, lt-ltb, le-leb, eq-eqb}
@@ -9,7 +9,7 @@ use lib.Dec.{ltb, leb, eqb, eqb·suc-zero}
 use lib.IntN.{natAbs}
 use Rattle.arith.proofs.Tests.{both}
 use Rattle.section.specs.declared.Section.{Section}
-use Rattle.section.specs.Section.{layerAt, layersOf, rise, layersRight}
+use Rattle.section.specs.Section.{layerAt, rise, layersRight}
 use Rattle.section.specs.Refusal.{within, inTable, midRight, sectionRefusal}
 use Rattle.section.specs.Accepted.{Accepted}
 use Rattle.section.proofs.Layers.{few, rising}

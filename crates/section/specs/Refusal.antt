@@ -1,6 +1,5 @@
 -- Document 01, 'What is refused, tested in this order': 7 to 13, and what an accepted section is.
-use Prim.Native.Nat.{ℕ, _+_, _*_, _-_, _%_, _≤_, _<_}
-use mathlib.Core.Path.{_≡_}
+use Prim.Native.Nat.{ℕ, _*_, _-_, _%_}
 use mathlib.Core.Bool.{Bool, cond, _&&_, _||_}
 use lib.Dec.{ltb, leb, eqb}
 use lib.IntN.{natAbs}

@@ -1,5 +1,7 @@
 //! Document 01's rules, by search over tables where the proved code goes by cases.
 
+/// `fw_class_answer`, as the header lays it out.
+#[repr(C)]
 #[derive(Debug, Clone, Copy, PartialEq, Eq, PartialOrd, Ord)]
 pub struct Class {
     pub refusal: u32,

@@ -21,33 +21,46 @@ fn thirds() -> BTreeSet<u16> {
         .collect()
 }
 
-fn hold(fr1s: impl Iterator<Item = u16>, fr3s: impl Iterator<Item = u16> + Clone) {
+/// Every fR1 with those, and every fR3 at each step, ± 1.
+fn cases() -> impl Iterator<Item = (u16, u16)> {
+    let thirds: Vec<u16> = thirds().into_iter().collect();
+    let across =
+        (0..=u16::MAX).flat_map(move |fr1| thirds.clone().into_iter().map(move |fr3| (fr1, fr3)));
+    let along = STEPS.into_iter().flat_map(around);
+    across.chain(along.flat_map(|fr1| (0..=u16::MAX).map(move |fr3| (fr1, fr3))))
+}
+
+#[test]
+fn the_face_gives_the_rules_class() {
     let mut held = Held::new();
-    for fr1 in fr1s {
-        for fr3 in fr3s.clone() {
-            held.class(fr1, fr3, rules::class(fr1, fr3));
-        }
+    for (fr1, fr3) in cases() {
+        held.class(fr1, fr3, rules::class(fr1, fr3));
     }
     held.finish();
 }
 
 #[test]
-fn every_fr1_with_a_dense_sample_of_fr3() {
-    let thirds = thirds();
-    hold(0..=u16::MAX, thirds.iter().copied());
+fn the_cases_reach_every_step_with_every_letter_and_the_refusal() {
+    let reached: BTreeSet<_> = cases().map(|(fr1, fr3)| rules::class(fr1, fr3)).collect();
+    assert_eq!(reached.len(), STEPS.len() * LETTERS.len() + 1);
 }
 
-#[test]
-fn every_fr3_at_each_step_and_its_neighbours() {
-    hold(
-        STEPS.into_iter().flat_map(around).chain([0, u16::MAX]),
-        0..=u16::MAX,
-    );
-}
+/// The library is x86-64 code, so only there can a Rust program link it.
+#[cfg(target_arch = "x86_64")]
+mod linked {
+    use super::{cases, rules};
 
-#[test]
-fn the_sample_has_every_step_with_every_letter_and_the_refusal() {
-    let answers = |fr1: u16| thirds().into_iter().map(move |fr3| rules::class(fr1, fr3));
-    let seen: BTreeSet<_> = (0..=8000).step_by(500).flat_map(answers).collect();
-    assert_eq!(seen.len(), STEPS.len() * LETTERS.len() + 1);
+    #[link(name = "panel", kind = "static")]
+    extern "C" {
+        fn fw_class(fr1: u16, fr3: u16) -> rules::Class;
+    }
+
+    #[test]
+    fn the_face_linked_gives_the_rules_class() {
+        for (fr1, fr3) in cases() {
+            // It takes any input and touches no memory of the caller's.
+            let class = unsafe { fw_class(fr1, fr3) };
+            assert_eq!(class, rules::class(fr1, fr3), "fR1 {fr1}, fR3 {fr3}");
+        }
+    }
 }

@@ -4,32 +4,17 @@ use Rattle.class.specs.Class.{letterOf}
 use Rattle.class.proofs.letter_of.Statement.{statement}
 use Rattle.class.proofs.letter_of.Tie as tie
 
-mul-tenths : tie.Need-mul-tenths
-mul-tenths c = search needs
-
-mul-if1 : tie.Need-mul-if1
-mul-if1 c = search needs
-
 returns : tie.Need-returns
 unfolding letterOf
 returns c = rw (le-leb _ _ (c .if1 .taken))
-
-mul-if2 : tie.Need-mul-if2
-mul-if2 c = search needs
 
 returns-2 : tie.Need-returns-2
 unfolding letterOf
 returns-2 c = rw (lt-leb _ _ (c .before .if1 .left), le-leb _ _ (c .if2 .taken))
 
-mul-if3 : tie.Need-mul-if3
-mul-if3 c = search needs
-
 returns-3 : tie.Need-returns-3
 unfolding letterOf
 returns-3 c = rw (lt-leb _ _ (c .before .before .if1 .left), lt-leb _ _ (c .before .if2 .left), le-leb _ _ (c .if3 .taken))
-
-mul-if4 : tie.Need-mul-if4
-mul-if4 c = search needs
 
 returns-4 : tie.Need-returns-4
 unfolding letterOf
@@ -42,4 +27,4 @@ returns-5 c = rw (lt-leb _ _ (c .before .before .before .if1 .left), lt-leb _ _ 
 pub letter-of-spec : {M : Type 1} → statement M
 letter-of-spec =
     tie.close
-    (tie.spec mul-tenths mul-if1 returns mul-if2 returns-2 mul-if3 returns-3 mul-if4 returns-4 returns-5)
+    (tie.spec (λ c. search needs) (λ c. search needs) returns (λ c. search needs) returns-2 (λ c. search needs) returns-3 (λ c. search needs) returns-4 returns-5)

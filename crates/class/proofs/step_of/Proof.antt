@@ -17,21 +17,6 @@ abbrev μ-loop : tie.MeasureT-loop
 loop-holds : tie.Need-loop-holds Inv-loop μ-loop
 loop-holds c = (omega arith, start (c .args .fr1))
 
-cast-next : tie.Need-cast-next Inv-loop μ-loop
-cast-next c = search needs
-
-mul-next : tie.Need-mul-next Inv-loop μ-loop
-mul-next c = search needs
-
-array-read-next : tie.Need-array-read-next Inv-loop μ-loop
-array-read-next c = omega arith
-
-add-rung : tie.Need-add-rung Inv-loop μ-loop
-add-rung c = search needs
-
-loop-less : tie.Need-loop-less Inv-loop μ-loop
-loop-less c = search needs
-
 loop-again : tie.Need-loop-again Inv-loop μ-loop
 unfolding ladder
 loop-again c =
@@ -44,4 +29,4 @@ returns c = let e : c .before .loop .rung ≡ 12 = omega arith in done (rw e at 
 
 pub step-of-spec : {M : Type 1} → statement M
 step-of-spec =
-    tie.close (tie.spec Inv-loop μ-loop loop-holds cast-next mul-next array-read-next add-rung loop-less loop-again returns)
+    tie.close (tie.spec Inv-loop μ-loop loop-holds (λ c. search needs) (λ c. search needs) (λ c. omega arith) (λ c. search needs) (λ c. search needs) loop-again returns)

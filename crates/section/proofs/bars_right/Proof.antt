@@ -12,36 +12,15 @@ use Rattle.section.proofs.bars_right.Tie as tie
 right : (c : tie.Else1) → layersRight (c .before .before .args .t1) ≡ true
 right c = sym (c .before .layers-right .ensures) ∙ not-false _ (c .if1 .left)
 
-layers-right-requires : tie.Need-layers-right-requires
-layers-right-requires c κs = search needs
-
 returns : tie.Need-returns
 returns c = rw (sym (c .before .layers-right .ensures) ∙ not-true _ (c .if1 .taken))
-
-cast-m : tie.Need-cast-m
-cast-m c = search needs
 
 returns-2 : tie.Need-returns-2
 unfolding midRight
 returns-2 c = rw (right (c .before), eq-eqb (c .before .before .before .args .t1 .count) 0 (c .if2 .taken))
 
-sub-at : tie.Need-sub-at
-sub-at c = search needs
-
-mul-deepest : tie.Need-mul-deepest
-mul-deepest c = search needs
-
 element-copy-out-deepest : tie.Need-element-copy-out-deepest
 element-copy-out-deepest c = omega (arith, few _ (right (c .before)))
-
-cast-result : tie.Need-cast-result
-cast-result c = search needs
-
-cast-result-2 : tie.Need-cast-result-2
-cast-result-2 c = search needs
-
-mul-result : tie.Need-mul-result
-mul-result c = search needs
 
 returns-3 : tie.Need-returns-3
 unfolding midRight
@@ -51,14 +30,14 @@ pub bars-right-spec : {M : Type 1} → statement M
 bars-right-spec =
     tie.close
     (tie.spec
-    layers-right-requires
+    (λ c κs. search needs)
     returns
-    cast-m
+    (λ c. search needs)
     returns-2
-    sub-at
-    mul-deepest
+    (λ c. search needs)
+    (λ c. search needs)
     element-copy-out-deepest
-    cast-result
-    cast-result-2
-    mul-result
+    (λ c. search needs)
+    (λ c. search needs)
+    (λ c. search needs)
     returns-3)

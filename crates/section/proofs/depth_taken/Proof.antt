@@ -15,23 +15,8 @@ Inv-loop depth s m found₀ j₀ found j = (j ≤ m) × (taken depth (layersOf s
 abbrev μ-loop : tie.MeasureT-loop
 μ-loop depth s m found₀ j₀ found j = m - j
 
-cast-m : tie.Need-cast-m Inv-loop μ-loop
-cast-m c = search needs
-
 loop-holds : tie.Need-loop-holds Inv-loop μ-loop
 loop-holds c = (omega arith, ap (taken (c .args .depth)) (rest-all (c .args .t1 .layers) (c .args .t1 .count)))
-
-mul-layer : tie.Need-mul-layer Inv-loop μ-loop
-mul-layer c = search needs
-
-element-copy-out-layer : tie.Need-element-copy-out-layer Inv-loop μ-loop
-element-copy-out-layer c = search needs
-
-add-j : tie.Need-add-j Inv-loop μ-loop
-add-j c = search needs
-
-loop-less : tie.Need-loop-less Inv-loop μ-loop
-loop-less c = search needs
 
 loop-again : tie.Need-loop-again Inv-loop μ-loop
 loop-again c =
@@ -51,11 +36,11 @@ depth-taken-spec =
     (tie.spec
     Inv-loop
     μ-loop
-    cast-m
+    (λ c. search needs)
     loop-holds
-    mul-layer
-    element-copy-out-layer
-    add-j
-    loop-less
+    (λ c. search needs)
+    (λ c. search needs)
+    (λ c. search needs)
+    (λ c. search needs)
     loop-again
     returns)

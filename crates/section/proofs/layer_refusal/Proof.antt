@@ -10,37 +10,31 @@ returns : tie.Need-returns
 unfolding layerRefusal
 returns c = rw (le-ltb (c .before .before .args .s .count) 8 (c .if1 .taken), same, same)
 
-layers-right-requires : tie.Need-layers-right-requires
-layers-right-requires c κs = search needs
-
-line-requires : tie.Need-line-requires
-line-requires c κs = search needs
-
-depth-taken-requires : tie.Need-depth-taken-requires
-depth-taken-requires c κs = search needs
-
-line-requires-2 : tie.Need-line-requires-2
-line-requires-2 c κs = search needs
-
-in-range-requires : tie.Need-in-range-requires
-in-range-requires c κs = search needs
-
-line-requires-3 : tie.Need-line-requires-3
-line-requires-3 c κs = search needs
-
 returns-2 : tie.Need-returns-2
 unfolding layerRefusal
-returns-2 c = rw (lt-ltb (c .before .before .before .before .before .before .before .before .args .s .count) 8 (omega arith)) (cc)
+returns-2 c =
+    let c2 = c .before .before in
+    let c1 = c2 .before .before in
+    let c0 = c1 .before in
+    rw (
+      c .line3 .ensures,
+      c .before .in-range .ensures,
+      c2 .line2 .ensures,
+      c2 .before .depth-taken .ensures,
+      c1 .line .ensures,
+      c0 .layers-right .ensures,
+      lt-ltb (c0 .before .before .before .args .s .count) 8 (omega arith),
+    )
 
 pub layer-refusal-spec : {M : Type 1} → statement M
 layer-refusal-spec =
     tie.close
     (tie.spec
     returns
-    layers-right-requires
-    line-requires
-    depth-taken-requires
-    line-requires-2
-    in-range-requires
-    line-requires-3
+    (λ c κs. search needs)
+    (λ c κs. search needs)
+    (λ c κs. search needs)
+    (λ c κs. search needs)
+    (λ c κs. search needs)
+    (λ c κs. search needs)
     returns-2)

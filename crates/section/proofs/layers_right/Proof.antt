@@ -15,30 +15,12 @@ Inv-loop s m h right₀ above₀ j₀ right above j = (j ≤ m) × (rise h 0 (la
 abbrev μ-loop : tie.MeasureT-loop
 μ-loop s m h right₀ above₀ j₀ right above j = m - j
 
-cast-m : tie.Need-cast-m Inv-loop μ-loop
-cast-m c = search needs
-
 returns : tie.Need-returns Inv-loop μ-loop
 unfolding layersRight
 returns c = rw (lt-leb (c .before .args .t1 .count) 8 (c .if1 .taken))
 
 loop-holds : tie.Need-loop-holds Inv-loop μ-loop
 loop-holds c = (omega arith, ap (rise (c .before .args .t1 .h) 0) (rest-all (c .before .args .t1 .layers) (c .before .args .t1 .count)))
-
-mul-layer : tie.Need-mul-layer Inv-loop μ-loop
-mul-layer c = search needs
-
-element-copy-out-layer : tie.Need-element-copy-out-layer Inv-loop μ-loop
-element-copy-out-layer c = search needs
-
-in-range-requires : tie.Need-in-range-requires Inv-loop μ-loop
-in-range-requires c κs = search needs
-
-add-j : tie.Need-add-j Inv-loop μ-loop
-add-j c = search needs
-
-loop-less : tie.Need-loop-less Inv-loop μ-loop
-loop-less c = search needs
 
 loop-again : tie.Need-loop-again Inv-loop μ-loop
 loop-again c =
@@ -59,13 +41,13 @@ layers-right-spec =
     (tie.spec
     Inv-loop
     μ-loop
-    cast-m
+    (λ c. search needs)
     returns
     loop-holds
-    mul-layer
-    element-copy-out-layer
-    in-range-requires
-    add-j
-    loop-less
+    (λ c. search needs)
+    (λ c. search needs)
+    (λ c κs. search needs)
+    (λ c. search needs)
+    (λ c. search needs)
     loop-again
     returns-2)

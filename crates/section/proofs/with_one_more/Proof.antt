@@ -18,32 +18,11 @@ Inv-loop m layers₀ carried₀ j₀ layers carried j = (j ≤ m) × (Carry (ins
 abbrev μ-loop : tie.MeasureT-loop
 μ-loop m layers₀ carried₀ j₀ layers carried j = m - j
 
-cast-m : tie.Need-cast-m Inv-loop μ-loop
-cast-m c = search needs
-
 loop-holds : tie.Need-loop-holds Inv-loop μ-loop
 loop-holds c =
     let s = c .before .before .args .s in
     let long : length (s .layers) ≡ 8 = search (needs, length-mapped) in
     (omega arith, start (s .layers) (s .count) (s .h) _ long (rising s (c .before .before .pre .1)))
-
-mul-here : tie.Need-mul-here Inv-loop μ-loop
-mul-here c = search needs
-
-array-copy-out-here : tie.Need-array-copy-out-here Inv-loop μ-loop
-array-copy-out-here c = search needs
-
-mul-layers : tie.Need-mul-layers Inv-loop μ-loop
-mul-layers c = search needs
-
-array-set-from-layers : tie.Need-array-set-from-layers Inv-loop μ-loop
-array-set-from-layers c = search needs
-
-add-j : tie.Need-add-j Inv-loop μ-loop
-add-j c = search needs
-
-loop-less : tie.Need-loop-less Inv-loop μ-loop
-loop-less c = search needs
 
 loop-again : tie.Need-loop-again Inv-loop μ-loop
 loop-again c =
@@ -55,12 +34,6 @@ loop-again c =
           (c .if1 .came),
     )
 
-mul-layers-2 : tie.Need-mul-layers-2 Inv-loop μ-loop
-mul-layers-2 c = search needs
-
-array-set-from-layers-2 : tie.Need-array-set-from-layers-2 Inv-loop μ-loop
-array-set-from-layers-2 c = search needs
-
 returns : tie.Need-returns Inv-loop μ-loop
 returns c = done (c .before .loop .inv .1) (omega arith) (omega arith)
 
@@ -70,15 +43,15 @@ with-one-more-spec =
     (tie.spec
     Inv-loop
     μ-loop
-    cast-m
+    (λ c. search needs)
     loop-holds
-    mul-here
-    array-copy-out-here
-    mul-layers
-    array-set-from-layers
-    add-j
-    loop-less
+    (λ c. search needs)
+    (λ c. search needs)
+    (λ c. search needs)
+    (λ c. search needs)
+    (λ c. search needs)
+    (λ c. search needs)
     loop-again
-    mul-layers-2
-    array-set-from-layers-2
+    (λ c. search needs)
+    (λ c. search needs)
     returns)

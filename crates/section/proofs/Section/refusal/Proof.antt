@@ -11,45 +11,6 @@ use Rattle.section.proofs.Section.refusal.Tie as tie
 read : (c : tie.After-load-right) → toZ w32 (ofZ w32 (c .before .before .before .before .before .before .before .args .self .load)) ≡ c .before .before .before .before .before .before .before .args .self .load
 read c = read32 (record { sfits = c .before .struct-told .given .1 .1 .1 .1 .1 .1 .0 .1 })
 
-line-requires : tie.Need-line-requires
-line-requires c κs = search needs
-
-bars-right-requires : tie.Need-bars-right-requires
-bars-right-requires c κs = search needs
-
-line-requires-2 : tie.Need-line-requires-2
-line-requires-2 c κs = search needs
-
-load-right-requires : tie.Need-load-right-requires
-load-right-requires c κs = search needs
-
-line-requires-3 : tie.Need-line-requires-3
-line-requires-3 c κs = search needs
-
-line-requires-4 : tie.Need-line-requires-4
-line-requires-4 c κs = search needs
-
-inside-requires : tie.Need-inside-requires
-inside-requires c κs = search needs
-
-line-requires-5 : tie.Need-line-requires-5
-line-requires-5 c κs = search needs
-
-inside-requires-2 : tie.Need-inside-requires-2
-inside-requires-2 c κs = search needs
-
-inside-requires-3 : tie.Need-inside-requires-3
-inside-requires-3 c κs = search needs
-
-line-requires-6 : tie.Need-line-requires-6
-line-requires-6 c κs = search needs
-
-inside-requires-4 : tie.Need-inside-requires-4
-inside-requires-4 c κs = search needs
-
-line-requires-7 : tie.Need-line-requires-7
-line-requires-7 c κs = search needs
-
 returns : tie.Need-returns
 unfolding sectionRefusal
 returns c =
@@ -80,17 +41,17 @@ pub refusal-spec : {M : Type 1} → statement M
 refusal-spec =
     tie.close
     (tie.spec
-    line-requires
-    bars-right-requires
-    line-requires-2
-    load-right-requires
-    line-requires-3
-    line-requires-4
-    inside-requires
-    line-requires-5
-    inside-requires-2
-    inside-requires-3
-    line-requires-6
-    inside-requires-4
-    line-requires-7
+    (λ c κs. search needs)
+    (λ c κs. search needs)
+    (λ c κs. search needs)
+    (λ c κs. search needs)
+    (λ c κs. search needs)
+    (λ c κs. search needs)
+    (λ c κs. search needs)
+    (λ c κs. search needs)
+    (λ c κs. search needs)
+    (λ c κs. search needs)
+    (λ c κs. search needs)
+    (λ c κs. search needs)
+    (λ c κs. search needs)
     returns)

@@ -1,6 +1,6 @@
 use mathlib.Core.Path.{_≡_, sym, _∙_}
 use native.Mathlib.Omega.{arith}
-use borrow.Author.Tests.{eq-eqb, ne-eqb}
+use borrow.Author.Tests.{ne-eqb}
 use Rattle.section.specs.Added.{layerRefusal, withLayer, addedAnswer}
 use Rattle.section.proofs.Lines.{takes}
 use borrow.Author.Needs.{needs}
@@ -10,9 +10,6 @@ use Rattle.section.proofs.Section.with_layer.Tie as tie
 -- where the layer is not refused
 taken-in : (c : tie.Else1) → layerRefusal (c .before .before .args .self) (record { depth = c .before .before .args .depth; area = c .before .before .args .area }) ≡ 0
 taken-in c = sym (c .before .layer-refusal .ensures) ∙ c .if1 .left
-
-layer-refusal-requires : tie.Need-layer-refusal-requires
-layer-refusal-requires c κs = search needs
 
 returns : tie.Need-returns
 unfolding addedAnswer
@@ -31,4 +28,4 @@ returns-2 c = rw (taken-in (c .before .before), c .before .with-one-more .ensure
 pub with-layer-spec : {M : Type 1} → statement M
 with-layer-spec =
     tie.close
-    (tie.spec layer-refusal-requires returns with-one-more-requires add-section returns-2)
+    (tie.spec (λ c κs. search needs) returns with-one-more-requires add-section returns-2)
