@@ -1,52 +1,67 @@
 -- Climbing the ladder: since the steps rise, the last one that is at most f is the largest. Assumes nothing.
 use Prim.Native.Nat.{ℕ, _<_, _≤_, _+_, max}
-use mathlib.Core.Path.{_≡_, refl, _∙_, ap}
-use mathlib.Core.Bool.{cond, _&&_}
-use mathlib.Core.List.{List, _∷_}
+use mathlib.Core.Path.{_≡_, refl}
+use mathlib.Core.Bool.{Bool, true, false, cond}
+use mathlib.Core.List.{List, [], _∷_}
+use native.Mathlib.Nat.{max-le}
 use native.Mathlib.Omega.{arith}
 use native.Mathlib.Numerals.{add-one}
-use borrow.Author.Tests.{leb-true, le-leb, lt-leb}
 use lib.Dec.{leb}
 use lib.ListN.{drop, getD}
 use lib.Seq.{drop-cons}
-use Rattle.arith.proofs.Tests.{both, allBelow, all-below}
+use borrow.Author.Tests.{leb-true, le-leb, lt-leb}
+use Rattle.arith.proofs.Tests.{allBelow, all-below}
 use Rattle.class.specs.Class.{ladder, largest, stepOf}
 
--- the table's rule: each rung is at most the next, and 8000 stands in for the one past the last
-rung : (i : ℕ) → i < 12 → (getD ladder i 8000 ≤ getD ladder i 0) × (getD ladder i 0 ≤ getD ladder (i + 1) 8000)
+-- the table's rule: no rung is above the next
+rises : (i : ℕ) → i < 11 → getD ladder i 0 ≤ getD ladder (i + 1) 0
 unfolding ladder allBelow
-rung i h =
-    let k = both (leb (getD ladder i 8000) (getD ladder i 0)) (leb (getD ladder i 0) (getD ladder (i + 1) 8000)) (all-below 12 (λ i. leb (getD ladder i 8000) (getD ladder i 0) && leb (getD ladder i 0) (getD ladder (i + 1) 8000)) refl i h) in
-    (leb-true _ _ (k .0), leb-true _ _ (k .1))
+rises i h = leb-true _ _ (all-below 11 (λ j. leb (getD ladder j 0) (getD ladder (j + 1) 0)) refl i h)
+
+capped : (s f : ℕ) → cond (leb s f) s 0 ≤ f
+capped s f = pick (leb s f) refl
+  where
+    pick : (t : Bool) → leb s f ≡ t → cond t s 0 ≤ f
+    pick true e = leb-true s f e
+    pick false e = omega arith
+
+within : (ss : List ℕ) (f : ℕ) → largest ss f ≤ f
+unfolding largest
+within [] f = omega arith
+within (s ∷ ss) f = max-le (capped s f) (within ss f)
+
+step-within : (f : ℕ) → stepOf f ≤ f
+unfolding stepOf
+step-within f = within ladder f
 
 -- at rung i the answer is the better of the step so far and of the rungs from i on
 pub record Climb (f step i : ℕ) : Type 0 where
   pub best : stepOf f ≡ max step (largest (drop i ladder) f)
-  pub low : step ≤ getD ladder i 8000
+  pub low : i < 12 → step ≤ getD ladder i 0
 
 pub start : (f : ℕ) → Climb f 0 0
 unfolding stepOf
-start f = record { best = omega arith; low = omega arith }
+start f = record { best = omega arith; low = λ h. omega arith }
 
-pub done : {f step : ℕ} → Climb f step 12 → (step ≡ stepOf f) × (step ≤ 8000)
+pub done : {f step : ℕ} → Climb f step 12 → (step ≡ stepOf f) × (step ≤ f)
 unfolding ladder largest
-done k = (omega (arith, k .best), k .low)
+done {f} {step} k = let e : step ≡ stepOf f = omega (arith, k .best) in (e, rw e (step-within f))
 
 module _ (f step i : ℕ) (h : i < 12) (k : Climb f step i) where
   rest : drop i ladder ≡ getD ladder i 0 ∷ drop (i + 1) ladder
   unfolding ladder
-  rest = rw (add-one) (drop-cons ladder i 0 (omega arith))
+  rest = rw (add-one i) (drop-cons ladder i 0 (omega arith))
 
   at-rung : stepOf f ≡ max step (max (cond (leb (getD ladder i 0) f) (getD ladder i 0) 0) (largest (drop (i + 1) ladder) f))
   unfolding largest
-  at-rung = k .best ∙ ap (λ (ss : List ℕ). max step (largest ss f)) rest
+  at-rung = rw rest at (k .best)
 
   pub stays : f < getD ladder i 0 → Climb f step (i + 1)
   stays j =
       let e = rw (lt-leb (getD ladder i 0) f j) at at-rung in
-      record { best = omega arith; low = omega (arith, k .low, rung i h .0, rung i h .1) }
+      record { best = omega arith; low = λ l. omega (arith, k .low h, rises i (omega arith)) }
 
   pub up : getD ladder i 0 ≤ f → Climb f (getD ladder i 0) (i + 1)
   up j =
       let e = rw (le-leb (getD ladder i 0) f j) at at-rung in
-      record { best = omega (arith, k .low, rung i h .0); low = rung i h .1 }
+      record { best = omega (arith, k .low h); low = λ l. rises i (omega arith) }

@@ -28,7 +28,7 @@ pub struct ClassAnswer {
 
 // The steps rise, so the last that is at most fR1 is the largest.
 fn step_of(fr1: u32) -> u32
-    ensures { λ r. ⌜ (r ≡ stepOf fr1) × (r ≤ 8000) ⌝ }
+    ensures { λ r. ⌜ (r ≡ stepOf fr1) × (r ≤ fr1) ⌝ }
 {
     let mut step: u32 = 0;
     for rung in 0..12u32 {

@@ -3,8 +3,8 @@ use Prim.Native.Nat.{ℕ}
 use mathlib.Core.Path.{_≡_}
 use mathlib.Core.List.{List}
 use contract.Lifetimes.{Lfts}
-use borrow.Fn.Kinds.{PK, RK, Dens, resT, endedOf, Out}
 use denote.Triple.Clauses.{AtExit}
+use borrow.Fn.Kinds.{PK, RK, Dens, resT, endedOf, Out}
 
 -- Two answers that a function's contract allows for the same arguments are one. `told` is what the contract tells a caller of an answer,
 -- as the checker reads it off the source.

@@ -5,10 +5,10 @@ use mathlib.Core.Bool.{true, _&&_}
 use mathlib.Core.List.{List, [], _∷_, _++_, append-assoc}
 use native.Mathlib.Omega.{arith}
 use native.Mathlib.Numerals.{add-one}
-use borrow.Author.Tests.{lt-ltb, le-ltb}
 use lib.Dec.{ltb}
 use lib.ListN.{length, take, drop, set, getD, length-set}
 use lib.Seq.{take-suc, take-suc-set, set-split, drop-drop, drop-set-lt, getD-drop}
+use borrow.Author.Tests.{lt-ltb, le-ltb}
 use Rattle.arith.proofs.Tests.{both}
 use Rattle.section.specs.declared.Layer.{Layer}
 use Rattle.section.specs.Section.{noLayer, layerAt, layersFrom, inRange, rise}
@@ -32,7 +32,11 @@ pub record Carry (answer ls : List Layer) (m : ℕ) (layers : List Layer) (carri
   pub above : ℕ
   pub rises : rise height above (rest ls m j) ≡ true
 
-pub start : (ls : List Layer) (m h : ℕ) (layer : Layer) → length ls ≡ 8 → rise h 0 (layersFrom ls 0 m) ≡ true → Carry (inserted layer (layersFrom ls 0 m)) ls m ls layer 0
+pub start :
+    (ls : List Layer) (m h : ℕ) (layer : Layer)
+    → length ls ≡ 8
+    → rise h 0 (layersFrom ls 0 m) ≡ true
+    → Carry (inserted layer (layersFrom ls 0 m)) ls m ls layer 0
 start ls m h layer k e = record {
   long = k;
   ahead = refl;

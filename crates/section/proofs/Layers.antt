@@ -39,7 +39,10 @@ rising s e = both (leb (s .count) 8) (rise (s .h) 0 (layersOf s)) e .1
 
 -- ---- a turn of a loop that tests the layers, and one of a loop that looks for a depth
 module _ (ls : List Layer) (m j : ℕ) (h : j < m) where
-  pub rise-next : (height above : ℕ) (right : Bool) → right && rise height above (rest ls m j) ≡ right && (inRange height (layerAt ls j) && ltb above (layerAt ls j .depth)) && rise height (layerAt ls j .depth) (rest ls m (j + 1))
+  pub rise-next :
+      (height above : ℕ) (right : Bool)
+      → right && rise height above (rest ls m j)
+      ≡ right && (inRange height (layerAt ls j) && ltb above (layerAt ls j .depth)) && rise height (layerAt ls j .depth) (rest ls m (j + 1))
   unfolding rise
   rise-next height above right = rw (rest-next ls m j h) (sym (and-assoc right _ _))
 

@@ -7,8 +7,8 @@ use mathlib.Core.Logic.{⊎-elim}
 use native.Mathlib.Nat.{eq-or-lt-of-le}
 use native.Mathlib.Numerals.{add-one}
 use native.Mathlib.Omega.{arith}
-use borrow.Author.Tests.{ltb-true, lt-ltb}
 use lib.Dec.{ltb}
+use borrow.Author.Tests.{ltb-true, lt-ltb}
 use Rattle.arith.proofs.Tests.{both}
 use Rattle.section.specs.declared.Layer.{Layer}
 use Rattle.section.specs.Section.{layerAt, layersFrom, inRange, rise}
@@ -51,7 +51,12 @@ module _ (ls : List Layer) (h : ℕ) where
       (eq-or-lt-of-le k)
 
   -- ---- and back
-  pub rises : (above i n : ℕ) → ((j : ℕ) → j < i + n → LayerIn h (layerAt ls j)) → ((j : ℕ) → j + 1 < i + n → depth j < depth (j + 1)) → (0 < n → above < depth i) → rise h above (layersFrom ls i n) ≡ true
+  pub rises :
+      (above i n : ℕ)
+      → ((j : ℕ) → j < i + n → LayerIn h (layerAt ls j))
+      → ((j : ℕ) → j + 1 < i + n → depth j < depth (j + 1))
+      → (0 < n → above < depth i)
+      → rise h above (layersFrom ls i n) ≡ true
   unfolding rise layersFrom
   rises above i zero f g k = refl
   rises above i (suc n) f g k =

@@ -1,3 +1,4 @@
+-- `class`: each way out is a line of the rule. Assumes nothing.
 use Prim.Native.Nat.{_*_}
 use native.Mathlib.Omega.{arith}
 use borrow.Author.Needs.{needs}

@@ -1,3 +1,4 @@
+-- `letter_of`: a test that failed on the way is a letter passed over. Assumes nothing.
 use borrow.Author.Needs.{needs}
 use borrow.Author.Tests.{le-leb, lt-leb}
 use Rattle.class.specs.Class.{letterOf}
@@ -18,11 +19,23 @@ returns-3 c = rw (lt-leb _ _ (c .before .before .if1 .left), lt-leb _ _ (c .befo
 
 returns-4 : tie.Need-returns-4
 unfolding letterOf
-returns-4 c = rw (lt-leb _ _ (c .before .before .before .if1 .left), lt-leb _ _ (c .before .before .if2 .left), lt-leb _ _ (c .before .if3 .left), le-leb _ _ (c .if4 .taken))
+returns-4 c =
+    rw (
+      lt-leb _ _ (c .before .before .before .if1 .left),
+      lt-leb _ _ (c .before .before .if2 .left),
+      lt-leb _ _ (c .before .if3 .left),
+      le-leb _ _ (c .if4 .taken),
+    )
 
 returns-5 : tie.Need-returns-5
 unfolding letterOf
-returns-5 c = rw (lt-leb _ _ (c .before .before .before .if1 .left), lt-leb _ _ (c .before .before .if2 .left), lt-leb _ _ (c .before .if3 .left), lt-leb _ _ (c .if4 .left))
+returns-5 c =
+    rw (
+      lt-leb _ _ (c .before .before .before .if1 .left),
+      lt-leb _ _ (c .before .before .if2 .left),
+      lt-leb _ _ (c .before .if3 .left),
+      lt-leb _ _ (c .if4 .left),
+    )
 
 pub letter-of-spec : {M : Type 1} → statement M
 letter-of-spec =

@@ -1,3 +1,4 @@
+-- `step_of`: at each rung the answer is the better of the step so far and of the rungs to come. Assumes nothing.
 use Prim.Native.Nat.{_≤_, _-_}
 use mathlib.Core.Path.{_≡_}
 use mathlib.Core.Logic.{⊎-elim}
@@ -21,8 +22,13 @@ loop-again : tie.Need-loop-again Inv-loop μ-loop
 unfolding ladder
 loop-again c =
     let i = c .before .before .loop .rung in
-    let k = c .before .before .loop .inv .1 in
-    (omega arith, ⊎-elim (λ w. rw (w .1) (up _ _ i (omega arith) k (w .0 .taken))) (λ w. rw (w .1) (stays _ _ i (omega arith) k (w .0 .left))) (c .if1 .came))
+    let k = c .before .before .loop .inv .1 in (
+      omega arith,
+      ⊎-elim
+          (λ w. rw (w .1) (up _ _ i (omega arith) k (w .0 .taken)))
+          (λ w. rw (w .1) (stays _ _ i (omega arith) k (w .0 .left)))
+          (c .if1 .came),
+    )
 
 returns : tie.Need-returns Inv-loop μ-loop
 returns c = let e : c .before .loop .rung ≡ 12 = omega arith in done (rw e at (c .before .loop .inv .1))

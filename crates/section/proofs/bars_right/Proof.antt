@@ -1,11 +1,12 @@
+-- `bars_right`: the layers first, then mid-height where there are bars. Assumes nothing.
 use mathlib.Core.Path.{_≡_, sym, _∙_}
 use mathlib.Core.Bool.{true}
 use native.Mathlib.Omega.{arith}
 use borrow.Author.Tests.{not-true, not-false, eq-eqb, ne-eqb}
+use borrow.Author.Needs.{needs}
 use Rattle.section.specs.Section.{layersRight}
 use Rattle.section.specs.Refusal.{midRight}
 use Rattle.section.proofs.Layers.{few}
-use borrow.Author.Needs.{needs}
 use Rattle.section.proofs.bars_right.Statement.{statement}
 use Rattle.section.proofs.bars_right.Tie as tie
 

@@ -1,11 +1,12 @@
+-- `depth_taken`: a depth is taken by a layer passed or by one to come. Assumes nothing.
 use Prim.Native.Nat.{_-_, _≤_}
 use mathlib.Core.Path.{_≡_, sym, _∙_, ap}
 use mathlib.Core.Bool.{_||_}
 use native.Mathlib.Omega.{arith}
+use borrow.Author.Needs.{needs}
 use Rattle.section.specs.Section.{layersOf}
 use Rattle.section.specs.Added.{taken}
 use Rattle.section.proofs.Layers.{rest, rest-all, taken-next, taken-done}
-use borrow.Author.Needs.{needs}
 use Rattle.section.proofs.depth_taken.Statement.{statement}
 use Rattle.section.proofs.depth_taken.Tie as tie
 

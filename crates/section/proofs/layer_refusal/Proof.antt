@@ -1,8 +1,9 @@
+-- `layer_refusal`: with 8 layers there the other lines do not matter, since all refuse by 12. Assumes nothing.
 use native.Mathlib.Omega.{arith}
 use borrow.Author.Tests.{lt-ltb, le-ltb}
+use borrow.Author.Needs.{needs}
 use Rattle.section.specs.Added.{layerRefusal}
 use Rattle.section.proofs.Lines.{same}
-use borrow.Author.Needs.{needs}
 use Rattle.section.proofs.layer_refusal.Statement.{statement}
 use Rattle.section.proofs.layer_refusal.Tie as tie
 

@@ -1,11 +1,12 @@
-use borrow.Author.Tests.{le-leb, lt-leb}
+-- `layers_right`: the layers rise where those passed did and those to come do. Assumes nothing.
 use Prim.Native.Nat.{_-_, _≤_}
 use mathlib.Core.Path.{_≡_, sym, _∙_, ap}
 use mathlib.Core.Bool.{_&&_}
 use native.Mathlib.Omega.{arith}
+use borrow.Author.Tests.{le-leb, lt-leb}
+use borrow.Author.Needs.{needs}
 use Rattle.section.specs.Section.{layersFrom, rise, layersRight}
 use Rattle.section.proofs.Layers.{rest, rest-all, rise-next, rise-done}
-use borrow.Author.Needs.{needs}
 use Rattle.section.proofs.layers_right.Statement.{statement}
 use Rattle.section.proofs.layers_right.Tie as tie
 

@@ -1,8 +1,9 @@
+-- `load_right`: a range that is the same both ways. Assumes nothing.
 use Rattle.arith.proofs.Signed.{read32, both-ways}
-use Rattle.section.proofs.load_right.Statement.{statement}
-use Rattle.section.proofs.load_right.Tie as tie
 use Rattle.section.proofs.load_right.Reads as reads
 use Rattle.section.proofs.load_right.Lts as lts
+use Rattle.section.proofs.load_right.Statement.{statement}
+use Rattle.section.proofs.load_right.Tie as tie
 
 returns : tie.Need-returns
 returns c = rw (read32 (c .fits .load)) (both-ways 9999999 (c .args .load))

@@ -1,14 +1,15 @@
-use Rattle.arith.proofs.Lists.{length-mapped}
-use mathlib.Core.Path.{_≡_}
-use lib.ListN.{length}
+-- `with_one_more`: a layer carried along (Carry). Assumes nothing.
 use Prim.Native.Nat.{_-_, _≤_}
-use native.Mathlib.Omega.{arith}
+use mathlib.Core.Path.{_≡_}
 use mathlib.Core.Logic.{⊎-elim}
+use native.Mathlib.Omega.{arith}
+use lib.ListN.{length}
+use borrow.Author.Needs.{needs}
+use Rattle.arith.proofs.Lists.{length-mapped}
 use Rattle.section.specs.Section.{layersFrom}
 use Rattle.section.specs.Added.{inserted}
 use Rattle.section.proofs.Layers.{rising}
 use Rattle.section.proofs.Carry.{Carry, start, stays, swaps, done}
-use borrow.Author.Needs.{needs}
 use Rattle.section.proofs.with_one_more.Statement.{statement}
 use Rattle.section.proofs.with_one_more.Tie as tie
 

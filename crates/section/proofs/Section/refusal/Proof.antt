@@ -1,14 +1,18 @@
+-- `Section::refusal`: the table from its first line down, each test by what it ensures. Assumes nothing.
 use mathlib.Core.Path.{_≡_}
 use mir.Syntax.{w32}
 use mir.Val.{toZ, ofZ}
+use borrow.Author.Needs.{needs}
 use Rattle.arith.proofs.Signed.{read32}
 use Rattle.section.specs.Refusal.{sectionRefusal}
-use borrow.Author.Needs.{needs}
 use Rattle.section.proofs.Section.refusal.Statement.{statement}
 use Rattle.section.proofs.Section.refusal.Tie as tie
 
 -- the load, as its bits are read back for the call
-read : (c : tie.After-load-right) → toZ w32 (ofZ w32 (c .before .before .before .before .before .before .before .args .self .load)) ≡ c .before .before .before .before .before .before .before .args .self .load
+read :
+    (c : tie.After-load-right)
+    → toZ w32 (ofZ w32 (c .before .before .before .before .before .before .before .args .self .load))
+    ≡ c .before .before .before .before .before .before .before .args .self .load
 read c = read32 (record { sfits = c .before .struct-told .given .1 .1 .1 .1 .1 .1 .0 .1 })
 
 returns : tie.Need-returns

@@ -1,14 +1,17 @@
+-- `Section::with_layer`: as it came beside a refusal, else with the layers of `with_one_more`. Assumes nothing.
 use mathlib.Core.Path.{_≡_, sym, _∙_}
 use native.Mathlib.Omega.{arith}
 use borrow.Author.Tests.{ne-eqb}
+use borrow.Author.Needs.{needs}
 use Rattle.section.specs.Added.{layerRefusal, withLayer, addedAnswer}
 use Rattle.section.proofs.Lines.{takes}
-use borrow.Author.Needs.{needs}
 use Rattle.section.proofs.Section.with_layer.Statement.{statement}
 use Rattle.section.proofs.Section.with_layer.Tie as tie
 
 -- where the layer is not refused
-taken-in : (c : tie.Else1) → layerRefusal (c .before .before .args .self) (record { depth = c .before .before .args .depth; area = c .before .before .args .area }) ≡ 0
+taken-in :
+    (c : tie.Else1)
+    → layerRefusal (c .before .before .args .self) (record { depth = c .before .before .args .depth; area = c .before .before .args .area }) ≡ 0
 taken-in c = sym (c .before .layer-refusal .ensures) ∙ c .if1 .left
 
 returns : tie.Need-returns
