@@ -33,7 +33,7 @@ letter-d = 100
 abbrev pub letter-e : ℕ
 letter-e = 101
 
--- fR3 over the step: a from 0.5, b from 0.7, c from 0.9, d from 1.1, e from 1.3
+-- fR3 over the step: a from 0.5, b from 0.7, c from 0.9, d from 1.1, e from 1.3; below 0.5 it is not asked for
 unfoldable pub letterOf : ℕ → ℕ → ℕ
 letterOf step fr3 =
     cond (leb (13 * step) (10 * fr3)) letter-e

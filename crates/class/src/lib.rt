@@ -1,5 +1,6 @@
 // The class of a fibre concrete from its residual strengths fR1 and fR3 (document 01, 'Class').
 ghost use mathlib.Core.Path.{_≡_};
+ghost use mathlib.Core.Bool.{cond};
 ghost use Prim.Native.Nat.{_≤_, _<_};
 ghost use Rattle.class.specs.Class.{stepOf, letterOf, classAnswer};
 
@@ -40,24 +41,22 @@ fn step_of(fr1: u32) -> u32
     step
 }
 
+fn letter_from(reached: bool, letter: u8, below: u8) -> u8
+    ensures { λ r. ⌜ r ≡ cond reached letter below ⌝ }
+{
+    if reached { letter } else { below }
+}
+
+// By fR3 over the step, from the lowest letter up.
 fn letter_of(step: u32, fr3: u32) -> u8
     requires { ⌜ (step < 65536) × (fr3 < 65536) ⌝ }
     ensures { λ r. ⌜ r ≡ letterOf step fr3 ⌝ }
 {
     let tenths = 10 * fr3;
-    if 13 * step <= tenths {
-        return b'e';
-    }
-    if 11 * step <= tenths {
-        return b'd';
-    }
-    if 9 * step <= tenths {
-        return b'c';
-    }
-    if 7 * step <= tenths {
-        return b'b';
-    }
-    b'a'
+    let letter = letter_from(7 * step <= tenths, b'b', b'a');
+    let letter = letter_from(9 * step <= tenths, b'c', letter);
+    let letter = letter_from(11 * step <= tenths, b'd', letter);
+    letter_from(13 * step <= tenths, b'e', letter)
 }
 
 // The step and the letter of a fibre concrete; or 17 and zeros.

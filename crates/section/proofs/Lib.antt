@@ -3,3 +3,4 @@ pub mod Carry
 pub mod Lines
 pub mod Rising
 pub mod Accepted
+pub mod Inserted

@@ -4,7 +4,7 @@ use mathlib.Core.Path.{_≡_, refl}
 use mathlib.Core.Bool.{Bool, true, false, not}
 use native.Mathlib.Omega.{arith}
 use lib.Dec.{ltb}
-use borrow.Author.Tests.{ltb-true}
+use borrow.Author.Tests.{ltb-true, not-true}
 use Rattle.section.specs.declared.Layer.{Layer}
 use Rattle.section.specs.declared.Section.{Section}
 use Rattle.section.specs.Section.{layersOf, inRange, layersRight}
@@ -19,11 +19,22 @@ pub same : (t : Bool) (k : ℕ) → line t k k ≡ k
 same true k = refl
 same false k = refl
 
--- a section that takes a layer has room for it, and its layers are right
-pub takes : (s : Section) (l : Layer) → layerRefusal s l ≡ 0 → (s .count < 8) × (layersRight s ≡ true)
+-- what a section is that takes a layer
+pub record Takes (s : Section) (l : Layer) : Type 0 where
+  pub inside : inRange (s .h) l ≡ true
+  pub free : taken (l .depth) (layersOf s) ≡ false
+  pub room : s .count < 8
+  pub right : layersRight s ≡ true
+
+pub takes : (s : Section) (l : Layer) → layerRefusal s l ≡ 0 → Takes s l
 unfolding layerRefusal
 takes s l e =
     let a = passed (inRange (s .h) l) 11 _ e in
     let b = passed (not (taken (l .depth) (layersOf s))) 11 _ (a .1) in
     let c = passed (ltb (s .count) 8) 11 _ (b .1) in
-    (ltb-true (s .count) 8 (c .0), passed (layersRight s) 11 0 (c .1) .0)
+    record {
+      inside = a .0;
+      free = not-true _ (b .0);
+      room = ltb-true (s .count) 8 (c .0);
+      right = passed (layersRight s) 11 0 (c .1) .0;
+    }

@@ -1,4 +1,4 @@
--- Document 01, 'What is refused, tested in this order': 7 to 13, and what an accepted section is.
+-- Document 01, 'What is refused, tested in this order': 7 to 13.
 use Prim.Native.Nat.{ℕ, _*_, _-_, _%_}
 use mathlib.Core.Bool.{Bool, cond, _&&_, _||_}
 use lib.Dec.{ltb, leb, eqb}

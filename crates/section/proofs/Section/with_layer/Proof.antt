@@ -19,10 +19,10 @@ unfolding addedAnswer
 returns c = rw (← c .before .layer-refusal .ensures, ne-eqb (c .before .layer-refusal .result) 0 (c .if1 .taken))
 
 with-one-more-requires : tie.Need-with-one-more-requires
-with-one-more-requires c κs = takes _ _ (taken-in c)
+with-one-more-requires c κs = let t = takes _ _ (taken-in c) in (t .room, t .right)
 
 add-section : tie.Need-add-section
-add-section c = omega (arith, takes _ _ (taken-in (c .before .before)) .0)
+add-section c = omega (arith, takes _ _ (taken-in (c .before .before)) .room)
 
 returns-2 : tie.Need-returns-2
 unfolding addedAnswer withLayer
