@@ -110,6 +110,7 @@ fn depth_taken(s: Section, depth: u16) -> bool
 fn layer_refusal(s: Section, layer: Layer) -> u32
     ensures { λ r. ⌜ r ≡ layerRefusal s layer ⌝ }
 {
+    // More than 8 could not be looked through, and at 8 there is no place left.
     if 8 <= s.count {
         return 12;
     }
