@@ -1,7 +1,7 @@
 -- A layer that is taken in leaves the layers right: in range and rising, at most 8. Assumes nothing.
 use Prim.Native.Nat.{ℕ, zero, suc, _+_, _<_}
 use mathlib.Core.Path.{_≡_, refl, sym, _∙_, ap}
-use mathlib.Core.Bool.{Bool, true, false, cond, _&&_, _||_, true≢false}
+use mathlib.Core.Bool.{Bool, true, false, cond, _&&_}
 use mathlib.Core.List.{List, [], _∷_, _++_, append-assoc}
 use native.Mathlib.Omega.{arith}
 use native.Mathlib.Numerals.{add-one}
@@ -9,7 +9,7 @@ use lib.Dec.{ltb, leb, eqb}
 use lib.ListN.{length, length-append}
 use lib.Seq.{getD-append-seam}
 use borrow.Author.Tests.{ltb-false, eqb-false, lt-ltb, le-leb}
-use Rattle.arith.proofs.Tests.{both}
+use Rattle.arith.proofs.Tests.{both, neither}
 use Rattle.section.specs.declared.Layer.{Layer}
 use Rattle.section.specs.declared.Section.{Section}
 use Rattle.section.specs.Section.{noLayer, layersFrom, layersOf, inRange, rise, layersRight}
@@ -17,10 +17,6 @@ use Rattle.section.specs.Added.{taken, layerRefusal, inserted, withLayer
 use Rattle.section.proofs.Layers.{rising}
 use Rattle.section.proofs.Rising.{layer-in}
 use Rattle.section.proofs.Lines.{takes}
-
-neither : (a b : Bool) → a || b ≡ false → (a ≡ false) × (b ≡ false)
-neither false b e = (refl, e)
-neither true b e = absurd (true≢false e)
 
 -- ---- in its place, the layer keeps the order
 module _ (h : ℕ) (l : Layer) (i : inRange h l ≡ true) where

@@ -60,7 +60,6 @@ module _ (ls : List Layer) (h : ℕ) where
   unfolding rise layersFrom
   rises above i zero f g k = refl
   rises above i (suc n) f g k =
-      let e : (suc i) + n ≡ i + suc n = omega arith in
       let deeper : 0 < n → depth i < depth (suc i) = λ q. rw (add-one i) at (g i (omega arith)) in
       let rest = rises (depth i) (suc i) n (λ j q. f j (omega arith)) (λ j q. g j (omega arith)) deeper in
       rw (in-layer h (layerAt ls i) (f i (omega arith)), lt-ltb above (depth i) (k (omega arith)), rest)

@@ -1,4 +1,4 @@
-//! Document 01's rules, by search over tables where the proved code goes by cases.
+//! Document 01's rules, by filters and searches over tables where the proved code compares step by step.
 
 /// `fw_class_answer`, as the header lays it out.
 #[repr(C)]
