@@ -1,0 +1,87 @@
+-- The ranges of a section's depths and of its law's numbers, where it is accepted. Assumes nothing.
+use Prim.Native.Nat.{ℕ, zero, suc, _+_, _*_, _-_, _/_, _≤_, _<_}
+use mathlib.Core.Path.{_≡_, refl}
+use mathlib.Core.Bool.{Bool, true, false, cond, _&&_}
+use mathlib.Core.List.{List, [], _∷_}
+use native.Mathlib.Nat as NatL
+use native.Mathlib.Omega.{arith}
+use lib.Dec.{leb, eqb, eqb·suc-zero}
+use lib.ListN.{getD}
+use borrow.Author.Tests.{leb-true, eqb-false}
+use Rattle.arith.proofs.Tests.{both, allBelow, all-below}
+use Rattle.section.specs.declared.Section.{Section}
+use Rattle.section.specs.Section.{layerAt}
+use Rattle.section.specs.Accepted.{Accepted}
+use Rattle.law.specs.Edition.{edition}
+use Rattle.law.specs.Law.{column, flexural, modulus, limitDepth, effectiveDepth, s1Of, e1Of, lawOf}
+use Rattle.law.specs.Ranges.{LawIn}
+
+-- ---- Table 1
+pub column-in : {s : Section} → Accepted s → column (s .fck) < 7
+column-in a = omega (arith, a .concrete .1)
+
+row : (c : List ℕ) (low high n : ℕ) → allBelow 7 (λ i. leb low (getD c i 0) && leb (getD c i 0) high) ≡ true → n < 7 → (low ≤ getD c n 0) × (getD c n 0 ≤ high)
+row c low high n e h =
+    let k = both (leb low (getD c n 0)) (leb (getD c n 0) high) (all-below 7 (λ i. leb low (getD c i 0) && leb (getD c i 0) high) e n h) in
+    (leb-true _ _ (k .0), leb-true _ _ (k .1))
+
+pub flexural-in : {s : Section} → Accepted s → (3700 ≤ flexural (s .fck)) × (flexural (s .fck) ≤ 6800)
+unfolding flexural allBelow
+flexural-in {s} a = row (3700 ∷ 4300 ∷ 4800 ∷ 5300 ∷ 5800 ∷ 6300 ∷ 6800 ∷ []) 3700 6800 (column (s .fck)) refl (column-in a)
+
+pub modulus-in : {s : Section} → Accepted s → (29000 ≤ modulus (s .fck)) × (modulus (s .fck) ≤ 37000)
+unfolding modulus allBelow
+modulus-in {s} a = row (29000 ∷ 30500 ∷ 32000 ∷ 33500 ∷ 35000 ∷ 36000 ∷ 37000 ∷ []) 29000 37000 (column (s .fck)) refl (column-in a)
+
+-- ---- depths
+pub limit-in : {s : Section} → Accepted s → (0 < limitDepth s) × (limitDepth s ≤ s .h)
+unfolding limitDepth
+limit-in {s} a = pick (s .count) refl
+  where
+    pick : (m : ℕ) → m ≡ s .count → (0 < cond (eqb m 0) (s .h) (layerAt (s .layers) (m - 1) .depth)) × (cond (eqb m 0) (s .h) (layerAt (s .layers) (m - 1) .depth) ≤ s .h)
+    pick zero e = (omega (arith, a .height .0), omega arith)
+    pick (suc m) e =
+        let l = a .layer (suc m - 1) (omega arith) in
+        rw eqb·suc-zero (l .deep, omega (arith, l .inside))
+
+pub depth-in : {s : Section} → Accepted s → (0 < effectiveDepth s) × (effectiveDepth s ≤ 1000)
+unfolding effectiveDepth
+depth-in a = (limit-in a .0, omega (arith, limit-in a .1, a .height .1))
+
+-- ---- the whole numbers
+pub s1-product : {s : Section} → Accepted s → (25900 * 600 ≤ 7 * flexural (s .fck) * (1600 - effectiveDepth s)) × (7 * flexural (s .fck) * (1600 - effectiveDepth s) ≤ 47600 * 1600)
+s1-product {s} a =
+    let f = flexural-in a in
+    let d = depth-in a in
+    (NatL.mul-le-mul {n₁ = 25900} {m₁ = 600} (omega arith) (omega arith), NatL.mul-le-mul {n₂ = 47600} {m₂ = 1600} (omega arith) (omega arith))
+
+pub s1-in : {s : Section} → Accepted s → (1554 ≤ s1Of s) × (s1Of s ≤ 7616)
+unfolding s1Of
+s1-in a = let p = s1-product a in (omega arith, omega arith)
+
+pub e1-in : {s : Section} → Accepted s → (42 ≤ e1Of s) × (e1Of s ≤ 262)
+unfolding e1Of
+e1-in {s} a =
+    let m = modulus-in a in
+    let k = s1-in a in
+    let p : 0 < modulus (s .fck) = omega arith in
+    (NatL.le-div-iff-mul-le p .1 (omega arith), omega (arith, NatL.div-lt-iff-lt-mul {x = 1000 * s1Of s} {y = 263} p .1 (omega arith)))
+
+pub law-in : {s : Section} → Accepted s → LawIn (lawOf s)
+unfolding lawOf edition
+law-in {s} a =
+    let k = s1-in a in
+    let e = e1-in a in
+    let f = a .concrete in
+    let y = a .steel in
+    record {
+      lines = record { first = omega arith; second = omega arith; third = omega arith };
+      fcd = (omega arith, omega arith);
+      s1 = k;
+      e1 = e;
+      e2 = (omega arith, omega arith);
+      s2 = omega (arith, a .fibres .0);
+      s3 = omega (arith, a .fibres .1);
+      e3 = refl;
+      fyd = (omega arith, omega arith);
+    }

@@ -1,0 +1,61 @@
+-- Document 01, 'Stress at a strain': the whole numbers of a section's law. Stress in kPa, strain in millionths, each number rounded down.
+use Prim.Native.Nat.{ℕ, _+_, _*_, _-_, _/_}
+use mathlib.Core.Bool.{cond}
+use mathlib.Core.List.{List, [], _∷_}
+use lib.Dec.{eqb}
+use lib.ListN.{getD}
+use Rattle.section.specs.declared.Section.{Section}
+use Rattle.section.specs.Section.{layerAt}
+use Rattle.section.specs.Refusal.{sectionRefusal}
+use Rattle.law.specs.declared.Law.{Law}
+use Rattle.law.specs.declared.LawAnswer.{LawAnswer}
+use Rattle.law.specs.Edition.{edition}
+
+-- ---- Table 1 of document 002, by fck: 20, 25, 30, 35, 40, 45, 50
+abbrev pub column : ℕ → ℕ
+column fck = (fck - 20) / 5
+
+-- mean flexural strength, kPa
+unfoldable pub flexural : ℕ → ℕ
+flexural fck = getD (3700 ∷ 4300 ∷ 4800 ∷ 5300 ∷ 5800 ∷ 6300 ∷ 6800 ∷ []) (column fck) 0
+
+-- modulus E, N/mm²
+unfoldable pub modulus : ℕ → ℕ
+modulus fck = getD (29000 ∷ 30500 ∷ 32000 ∷ 33500 ∷ 35000 ∷ 36000 ∷ 37000 ∷ []) (column fck) 0
+
+-- ---- depths
+-- where the limit strain is reached: the depth of the deepest layer, or h without bars
+unfoldable pub limitDepth : Section → ℕ
+limitDepth s = cond (eqb (s .count) 0) (s .h) (layerAt (s .layers) (s .count - 1) .depth)
+
+-- the effective depth d, for s1 and for shear
+unfoldable pub effectiveDepth : Section → ℕ
+effectiveDepth s = limitDepth s
+
+-- ---- the whole numbers
+unfoldable pub s1Of : Section → ℕ
+s1Of s = 7 * flexural (s .fck) * (1600 - effectiveDepth s) / 10000
+
+unfoldable pub e1Of : Section → ℕ
+e1Of s = 1000 * s1Of s / modulus (s .fck)
+
+unfoldable pub lawOf : Section → Law
+lawOf s = record {
+  fcd = s .fck * 1000 * 17 / 30;
+  s1 = s1Of s;
+  e1 = e1Of s;
+  e2 = e1Of s + 100;
+  s2 = 45 * s .feq2 / 100;
+  s3 = 37 * s .feq3 / 100;
+  e3 = edition .e3;
+  fyd = s .fyk * 1000 * 100 / 115;
+}
+
+abbrev pub noLaw : Law
+noLaw = record { fcd = 0; s1 = 0; e1 = 0; e2 = 0; s2 = 0; s3 = 0; e3 = 0; fyd = 0 }
+
+unfoldable pub lawAnswer : Section → LawAnswer
+lawAnswer s =
+    cond (eqb (sectionRefusal s) 0)
+    (record { refusal = 0; law = lawOf s })
+    (record { refusal = sectionRefusal s; law = noLaw })

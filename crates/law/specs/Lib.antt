@@ -1,0 +1,5 @@
+pub mod Edition
+pub mod Law
+pub mod Ranges
+pub mod Stress
+pub mod Sizes
