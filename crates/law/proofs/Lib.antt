@@ -1,3 +1,4 @@
 pub mod Ranges
+pub mod Answers
 pub mod Sizes
 pub mod Continuous

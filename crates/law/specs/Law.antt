@@ -51,11 +51,11 @@ lawOf s = record {
   fyd = s .fyk * 1000 * 100 / 115;
 }
 
-abbrev pub noLaw : Law
-noLaw = record { fcd = 0; s1 = 0; e1 = 0; e2 = 0; s2 = 0; s3 = 0; e3 = 0; fyd = 0 }
+abbrev pub answered : Law → LawAnswer
+answered law = record { refusal = 0; law = law }
+
+abbrev pub refused : ℕ → LawAnswer
+refused number = record { refusal = number; law = record { fcd = 0; s1 = 0; e1 = 0; e2 = 0; s2 = 0; s3 = 0; e3 = 0; fyd = 0 } }
 
 unfoldable pub lawAnswer : Section → LawAnswer
-lawAnswer s =
-    cond (eqb (sectionRefusal s) 0)
-    (record { refusal = 0; law = lawOf s })
-    (record { refusal = sectionRefusal s; law = noLaw })
+lawAnswer s = cond (eqb (sectionRefusal s) 0) (answered (lawOf s)) (refused (sectionRefusal s))

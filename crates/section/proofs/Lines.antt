@@ -1,19 +1,24 @@
 -- Lines of the table of refusals: what one that is passed tells. Assumes nothing.
-use Prim.Native.Nat.{ℕ, suc, _<_}
+use Prim.Native.Nat.{ℕ, zero, suc, _<_}
 use mathlib.Core.Path.{_≡_, refl}
 use mathlib.Core.Bool.{Bool, true, false, not}
+use native.Mathlib.Nat.{suc-ne-zero}
 use native.Mathlib.Omega.{arith}
-use lib.Dec.{ltb}
+use lib.Dec.{ltb, eqb·suc-zero}
 use borrow.Author.Tests.{ltb-true, not-true}
 use Rattle.section.specs.declared.Layer.{Layer}
 use Rattle.section.specs.declared.Section.{Section}
 use Rattle.section.specs.Section.{layersOf, inRange, layersRight}
-use Rattle.section.specs.Refusal.{line}
+use Rattle.section.specs.Refusal.{line, firstOf}
 use Rattle.section.specs.Added.{taken, layerRefusal}
 
 pub passed : (t : Bool) (k below : ℕ) → line t (suc k) below ≡ 0 → (t ≡ true) × (below ≡ 0)
 passed true k below e = (refl, e)
 passed false k below e = absurd (omega arith)
+
+pub none-of : (r next : ℕ) → firstOf r next ≡ 0 → (r ≡ 0) × (next ≡ 0)
+none-of zero next e = (refl, e)
+none-of (suc r) next e = absurd (suc-ne-zero r (rw eqb·suc-zero at e))
 
 pub same : (t : Bool) (k : ℕ) → line t k k ≡ k
 same true k = refl

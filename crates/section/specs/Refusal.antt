@@ -10,6 +10,10 @@ use Rattle.section.specs.Section.{layerAt, layersRight}
 abbrev pub line : Bool → ℕ → ℕ → ℕ
 line passes number below = cond passes below number
 
+-- a refusal, or where there is none the one that is tested after it
+abbrev pub firstOf : ℕ → ℕ → ℕ
+firstOf refusal next = cond (eqb refusal 0) next refusal
+
 abbrev pub within : ℕ → ℕ → ℕ → Bool
 within low high n = leb low n && leb n high
 

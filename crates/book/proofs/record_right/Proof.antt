@@ -1,0 +1,13 @@
+-- `record_right`: the rule's three tests. Assumes nothing.
+use borrow.Author.Needs.{needs}
+use Rattle.book.specs.Record.{recordRight}
+use Rattle.book.proofs.record_right.Statement.{statement}
+use Rattle.book.proofs.record_right.Tie as tie
+
+returns : tie.Need-returns
+unfolding recordRight
+returns c = rw (c .le162 .ensures, c .before .le16 .ensures)
+
+pub record-right-spec : {M : Type 1} → statement M
+record-right-spec =
+    tie.close (tie.spec (λ c κs. search needs) (λ c. search needs) (λ c. search needs) (λ c. search needs) (λ c κs. search needs) returns)

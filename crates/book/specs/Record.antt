@@ -1,0 +1,78 @@
+-- Document 01, 'The section book': one record, by itself, little-endian.
+use Prim.Native.Nat.{ℕ, _+_, _*_}
+use mathlib.Core.Bool.{Bool, cond, _&&_}
+use mathlib.Core.List.{List, [], _∷_}
+use lib.Dec.{ltb, leb, eqb}
+use lib.IntN.{ℤ, pos, _-ℤ_}
+use lib.ListN.{length, getD, replicate}
+use Rattle.section.specs.declared.Layer.{Layer}
+use Rattle.section.specs.declared.Section.{Section}
+use Rattle.section.specs.Section.{noLayer}
+use Rattle.section.specs.Refusal.{line}
+use Rattle.book.specs.declared.SectionAnswer.{SectionAnswer}
+
+-- the number of 16 bits, and of 32, at a place; a byte past the end is read as 0
+abbrev pub le16At : List ℕ → ℕ → ℕ
+le16At r i = getD r i 0 + 256 * getD r (i + 1) 0
+
+abbrev pub le32At : List ℕ → ℕ → ℕ
+le32At r i = le16At r i + 65536 * le16At r (i + 2)
+
+-- 32 bits signed: from 2³¹ on, the number less 2³²
+unfoldable pub signed32 : ℕ → ℤ
+signed32 n = cond (ltb n 2147483648) (pos n) (pos n -ℤ pos 4294967296)
+
+-- the layer count m
+abbrev pub countIn : List ℕ → ℕ
+countIn r = le16At r 20
+
+-- 24 + 4m bytes, m at most 8, the zero zero
+unfoldable pub recordRight : List ℕ → Bool
+recordRight r = eqb (length r) (24 + 4 * countIn r) && leb (countIn r) 8 && eqb (le16At r 22) 0
+
+unfoldable pub recordRefusal : List ℕ → ℕ
+recordRefusal r = line (recordRight r) 6 0
+
+-- depth and area at a place, counted from 0. Past the count they are past the end
+abbrev pub layerIn : List ℕ → ℕ → Layer
+layerIn r j = record { depth = le16At r (24 + 4 * j); area = le16At r (26 + 4 * j) }
+
+abbrev pub layersIn : List ℕ → List Layer
+layersIn r = layerIn r 0 ∷ layerIn r 1 ∷ layerIn r 2 ∷ layerIn r 3 ∷ layerIn r 4 ∷ layerIn r 5 ∷ layerIn r 6 ∷ layerIn r 7 ∷ []
+
+unfoldable pub sectionIn : List ℕ → Section
+sectionIn r = record {
+  b = le16At r 0;
+  h = le16At r 2;
+  fck = le16At r 4;
+  fyk = le16At r 6;
+  feq2 = le16At r 8;
+  feq3 = le16At r 10;
+  load = signed32 (le32At r 12);
+  asw = le16At r 16;
+  spacing = le16At r 18;
+  count = countIn r;
+  layers = layersIn r;
+}
+
+abbrev pub noSection : Section
+noSection = record {
+  b = 0;
+  h = 0;
+  fck = 0;
+  fyk = 0;
+  feq2 = 0;
+  feq3 = 0;
+  load = pos 0;
+  asw = 0;
+  spacing = 0;
+  count = 0;
+  layers = replicate 8 noLayer;
+}
+
+-- the section, or zeros beside the refusal
+unfoldable pub sectionAnswer : List ℕ → SectionAnswer
+sectionAnswer r =
+    cond (eqb (recordRefusal r) 0)
+    (record { refusal = 0; section = sectionIn r })
+    (record { refusal = recordRefusal r; section = noSection })

@@ -1,0 +1,5 @@
+pub mod Ends
+pub mod Exact
+pub mod Strains
+pub mod Answers
+pub mod Within

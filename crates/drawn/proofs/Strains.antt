@@ -1,0 +1,42 @@
+-- A whole strain: its side, its size, and the drawn range. Assumes nothing.
+use Prim.Native.Nat.{ℕ, suc, _≤_, _<_}
+use mathlib.Core.Path.{_≡_, refl, sym, ap, _∙_}
+use mathlib.Core.Bool.{true, false, _&&_, true≢false}
+use native.Mathlib.Nat as NatL
+use native.Mathlib.Omega.{arith}
+use lib.Dec.{leb}
+use lib.IntN.{ℤ, pos, negsuc, negℤ, natAbs, _-ℤ_}
+use lib.Signed.{ltZ, leZ}
+use mir.Syntax.{w32}
+use mir.Val.{SFits, toZ, ofZ}
+use borrow.Author.Tests.{ltb-true, leb-true}
+use Rattle.arith.specs.Floats.{isNeg}
+use Rattle.arith.proofs.Tests.{both}
+use Rattle.arith.proofs.Signed.{read32}
+use Rattle.law.specs.Edition.{edition}
+use Rattle.drawn.specs.Drawn.{inDrawnRange}
+
+-- ---- its side and its size, as the machine finds them
+module _ (z : ℤ) (fits : SFits w32 z) (small : natAbs z ≤ 10000) where
+  pub size-fits : SFits w32 (pos (natAbs z))
+  size-fits = record { sfits = omega arith }
+
+  pub turned : ltZ (toZ w32 (ofZ w32 z)) (pos 0) ≡ true → (pos 0 -ℤ toZ w32 (ofZ w32 z) ≡ pos (natAbs z)) × (isNeg z ≡ true)
+  turned e = rw (read32 fits) (turn z (rw (read32 fits) at e))
+    where
+      turn : (z : ℤ) → ltZ z (pos 0) ≡ true → (pos 0 -ℤ z ≡ pos (natAbs z)) × (isNeg z ≡ true)
+      turn (pos n) e = absurd (omega (arith, ltb-true n 0 e))
+      turn (negsuc k) e = (ap pos (NatL.zero-add (suc k)), refl)
+
+  pub kept : ltZ (toZ w32 (ofZ w32 z)) (pos 0) ≡ false → (toZ w32 (ofZ w32 z) ≡ pos (natAbs z)) × (isNeg z ≡ false)
+  kept e = rw (read32 fits) (keep z (rw (read32 fits) at e))
+    where
+      keep : (z : ℤ) → ltZ z (pos 0) ≡ false → (z ≡ pos (natAbs z)) × (isNeg z ≡ false)
+      keep (pos n) e = (refl, refl)
+      keep (negsuc k) e = absurd (true≢false e)
+
+-- ---- the drawn range
+pub drawn-size : (z : ℤ) → inDrawnRange z ≡ true → natAbs z ≤ 10000
+unfolding edition
+drawn-size (pos n) e = omega (arith, leb-true n 3500 e)
+drawn-size (negsuc k) e = omega (arith, leb-true k 9999 (both (leb k 9999) true e .0))

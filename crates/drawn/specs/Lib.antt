@@ -1,0 +1,2 @@
+pub mod Drawn
+pub mod Pieces
