@@ -1,6 +1,32 @@
 -- Document 01, 'Figures to meet': the figures marked P, as one table.
 use mathlib.Core.Path.{_≡_}
+use lib.IntN.{pos}
+use lib.ListN.{replicate}
+use Rattle.section.specs.declared.Section.{Section}
+use Rattle.section.specs.Section.{noLayer}
+use Rattle.law.specs.declared.Law.{Law}
+use Rattle.law.specs.Law.{effectiveDepth, lawOf}
+use Rattle.law.specs.Stress.{Is, compressed, stretched}
 use Rattle.class.specs.Class.{classAnswer, classed, refused, letter-a, letter-c, letter-d}
+
+-- fck 30, d 250, feq2 3000, feq3 2500: d is h, since there are no bars
+abbrev pub section250 : Section
+section250 = record {
+  b = 1000;
+  h = 250;
+  fck = 30;
+  fyk = 500;
+  feq2 = 3000;
+  feq3 = 2500;
+  load = pos 0;
+  asw = 0;
+  spacing = 0;
+  count = 0;
+  layers = replicate 8 noLayer;
+}
+
+abbrev pub law250 : Law
+law250 = lawOf section250
 
 abbrev pub Figures : Type 0
 Figures =
@@ -10,3 +36,11 @@ Figures =
     × (classAnswer 4000 2000 ≡ classed 4000 letter-a)
     × (classAnswer 4000 1999 ≡ refused 17)
     × (classAnswer 999 5000 ≡ refused 17)
+    × (effectiveDepth section250 ≡ 250)
+    × (law250 .s1 ≡ 4536)
+    × (law250 .e1 ≡ 141)
+    × (law250 .s2 ≡ 1350)
+    × (law250 .s3 ≡ 925)
+    × Is (compressed law250 1000 1) 12750
+    × Is (compressed law250 2000 1) 17000
+    × Is (stretched law250 10000 1) 925

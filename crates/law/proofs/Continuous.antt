@@ -8,11 +8,7 @@ use lib.Dec.{leb}
 use Rattle.arith.proofs.Products.{sub-scale}
 use Rattle.law.specs.declared.Law.{Law}
 use Rattle.law.specs.Ranges.{Lawful}
-use Rattle.law.specs.Stress.{Stress, size, flat, ramp, parabola, elastic, compressed, stretched, bar}
-
--- a stress of a whole size
-abbrev pub Is : Stress → ℕ → Type 0
-Is t n = t .num ≡ n * t .den
+use Rattle.law.specs.Stress.{Stress, Is, size, flat, ramp, parabola, elastic, compressed, stretched, bar}
 
 -- ---- a line at its two ends
 module _ (ea sa eb sb q : ℕ) where

@@ -5,6 +5,8 @@ use mathlib.Core.Bool.{Bool, true, false, not, _&&_, _||_, true≢false}
 use native.Mathlib.Nat as NatL
 use native.Mathlib.Omega.{arith}
 use lib.Dec.{ltb, eqb}
+use mir.Syntax.{w64}
+use mir.Val.{Fits}
 use borrow.Author.Tests.{ltb-true, lt-ltb, le-leb, lt-leb, eqb-true, eqb-false}
 use Rattle.arith.proofs.Tests.{both, neither}
 use Rattle.section.specs.declared.Section.{Section}
@@ -13,19 +15,10 @@ use Rattle.law.specs.declared.Law.{Law}
 use Rattle.law.specs.Edition.{edition}
 use Rattle.law.specs.Law.{lawOf}
 use Rattle.law.specs.Stress.{Stress, size, ramp, compressed, stretched, bar}
-use Rattle.law.specs.Sizes.{small, sizeIn}
+use Rattle.law.specs.Sizes.{Small, small, sizeIn}
 use Rattle.law.proofs.Ranges.{law-in}
 
 -- ---- a law whose numbers are small
-pub record Small (l : Law) : Type 0 where
-  pub fcd : l .fcd < 65536
-  pub s1 : l .s1 < 65536
-  pub s2 : l .s2 < 65536
-  pub s3 : l .s3 < 65536
-  pub e1 : l .e1 < 65536
-  pub e2 : l .e2 < 65536
-  pub e3 : l .e3 < 65536
-
 abbrev below : ℕ → Bool
 below n = ltb n 65536
 
@@ -47,7 +40,7 @@ smalls l e =
       e3 = ltb-true _ _ (p6 .1);
     }
 
--- the code's first test passes over such a law, and over a strain of 0
+-- the first test of a size passes over such a law, and over no strain
 pub idle : (l : Law) (t : Stress) (r : Bool) (p : ℕ) → r ≡ small l → not r || eqb p 0 ≡ true → (p ≡ 0 → size t ≡ 0) → 0 ≡ sizeIn l t
 unfolding sizeIn
 idle l t true p k e z = rw (sym k) (sym (z (eqb-true p 0 e)))
@@ -61,6 +54,10 @@ pub sized : (l : Law) (t : Stress) (n : ℕ) → small l ≡ true → n ≡ size
 unfolding sizeIn
 sized l t n k e = rw k e
 
+-- ---- products that 64 bits hold
+pub product-fits : (a b : ℕ) → a < 65536 → b < 4294967296 → Fits w64 (a * b)
+product-fits a b h k = omega (arith, NatL.mul-le-mul {n₁ = a} {m₁ = b} {n₂ = 65535} {m₂ = 4294967295} (omega arith) (omega arith))
+
 -- ---- compression
 shared : (a t u : ℕ) → a * (500 * t) * (500 * u) ≡ 250000 * (a * (t * u))
 shared a t u = ap (λ m. m * (500 * u)) (NatL.mul-left-comm a 500 t) ∙ NatL.mul-assoc 500 (a * t) (500 * u) ∙ ap (λ m. 500 * m) (NatL.mul-left-comm (a * t) 500 u ∙ ap (λ m. 500 * m) (NatL.mul-assoc a t u)) ∙ omega arith
@@ -70,6 +67,10 @@ module _ (l : Law) (t q : ℕ) where
   unfolding size compressed
   compressed-none e = rw (e, le-leb 0 (2000 * q) (omega arith), NatL.mul-zero (l .fcd), NatL.zero-mul (4000 * q - 0)) (NatL.zero-div (4000000 * q * q))
 
+  pub compressed-level : 4 * q < t → l .fcd ≡ size (compressed l (500 * t) q)
+  unfolding size compressed
+  compressed-level k = rw (lt-leb (500 * t) (2000 * q) (omega arith)) (sym (NatL.div-one (l .fcd)))
+
   pub compressed-rises : 0 < q → t ≤ 4 * q → l .fcd * (t * (8 * q - t)) / (16 * q * q) ≡ size (compressed l (500 * t) q)
   unfolding size compressed
   compressed-rises h k =
@@ -78,12 +79,15 @@ module _ (l : Law) (t q : ℕ) where
       rw (le-leb (500 * t) (2000 * q) (omega arith), less, shared (l .fcd) t (8 * q - t), den)
       (sym (NatL.mul-div-mul-left {m = 250000} (l .fcd * (t * (8 * q - t))) (16 * q * q) (omega arith)))
 
-  pub compressed-level : 4 * q < t → l .fcd ≡ size (compressed l (500 * t) q)
-  unfolding size compressed
-  compressed-level k = rw (lt-leb (500 * t) (2000 * q) (omega arith)) (sym (NatL.div-one (l .fcd)))
+-- the two factors of the parabola, and its denominator
+pub arch : (t q : ℕ) → t ≤ 4 * q → q < 65536 → t * (8 * q - t) ≤ 262140 * 524280
+arch t q h k = NatL.mul-le-mul {n₁ = t} {m₁ = 8 * q - t} {n₂ = 262140} {m₂ = 524280} (omega arith) (omega arith)
 
-pub arch-small : (t q : ℕ) → t ≤ 4 * q → q < 65536 → t * (8 * q - t) < 137438953472
-arch-small t q h k = omega (arith, NatL.mul-le-mul {n₁ = t} {m₁ = 8 * q - t} {n₂ = 262140} {m₂ = 524280} (omega arith) (omega arith))
+pub arch-fits : (f t q : ℕ) → f < 65536 → t ≤ 4 * q → q < 65536 → Fits w64 (f * (t * (8 * q - t)))
+arch-fits f t q h k j = omega (arith, NatL.mul-le-mul {n₁ = f} {n₂ = 65535} (omega arith) (arch t q k j))
+
+pub square-fits : (q : ℕ) → q < 65536 → Fits w64 (16 * q * q)
+square-fits q h = omega (arith, NatL.mul-le-mul {n₁ = 16 * q} {m₁ = q} {n₂ = 1048560} {m₂ = 65535} (omega arith) (omega arith))
 
 -- ---- tension
 module _ (l : Law) (p q : ℕ) where
@@ -115,29 +119,24 @@ length-of ea eb p q h k =
     let l : ea < eb = NatL.lt-of-mul-lt-mul-right q (omega arith) in
     (l, sym (NatL.add-mul (eb - ea) ea q) ∙ ap (λ m. m * q) (omega arith))
 
-pub divides : (a b q : ℕ) → 0 < a → a ≤ b * q → 0 < q
-divides a b zero h k = absurd (omega arith)
-divides a b (suc q) h k = omega arith
-
-pub product-small : (a b : ℕ) → a < 65536 → b < 65536 → a * b < 4294967296
-product-small a b h k = omega (arith, NatL.mul-le-mul {n₁ = a} {m₁ = b} {n₂ = 65535} {m₂ = 65535} (omega arith) (omega arith))
-
-pub product-wide : (a b : ℕ) → a < 65536 → b < 4294967296 → a * b < 281474976710656
-product-wide a b h k = omega (arith, NatL.mul-le-mul {n₁ = a} {m₁ = b} {n₂ = 65535} {m₂ = 4294967295} (omega arith) (omega arith))
-
 -- ---- bars
 module _ (l : Law) (t q : ℕ) where
   pub bar-none : t ≡ 0 → 0 ≡ size (bar l true (500 * t) q)
   unfolding bar size
   bar-none e = rw (e, le-leb 0 (l .fyd * q) (omega arith)) (sym (NatL.zero-div q))
 
+  pub bar-yields : l .fyd * q < 100000 * t → l .fyd ≡ size (bar l true (500 * t) q)
+  unfolding bar size
+  bar-yields a = rw (lt-leb (200 * (500 * t)) (l .fyd * q) (omega arith)) (sym (NatL.div-one (l .fyd)))
+
   pub bar-elastic : 100000 * t ≤ l .fyd * q → 100000 * t / q ≡ size (bar l true (500 * t) q)
   unfolding bar size
   bar-elastic a = rw (le-leb (200 * (500 * t)) (l .fyd * q) (omega arith)) (ap (λ m. m / q) (omega arith))
 
-  pub bar-yields : l .fyd * q < 100000 * t → l .fyd ≡ size (bar l true (500 * t) q)
-  unfolding bar size
-  bar-yields a = rw (lt-leb (200 * (500 * t)) (l .fyd * q) (omega arith)) (sym (NatL.div-one (l .fyd)))
+-- what bears a load has an area to bear it on
+pub divides : (a b q : ℕ) → 0 < a → a ≤ b * q → 0 < q
+divides a b zero h k = absurd (omega arith)
+divides a b (suc q) h k = omega arith
 
 -- ---- every accepted section's law is small
 pub small-law : {s : Section} → Accepted s → small (lawOf s) ≡ true

@@ -1,5 +1,6 @@
 -- Document 01, 'Stress at a strain': the exact stress of concrete and bars at an exact strain p / q. Nothing is rounded before `size`.
 use Prim.Native.Nat.{ℕ, _+_, _*_, _-_, _/_}
+use mathlib.Core.Path.{_≡_}
 use mathlib.Core.Bool.{Bool, true, false, cond}
 use lib.Dec.{leb}
 use lib.IntN.{ℤ, pos, negℤ}
@@ -21,6 +22,10 @@ size t = t .num / t .den
 
 unfoldable pub rounded : Stress → ℤ
 rounded t = signed (t .pulls) (size t)
+
+-- a stress that is a whole number before any rounding
+abbrev pub Is : Stress → ℕ → Type 0
+Is t n = t .num ≡ n * t .den
 
 -- ---- pieces
 abbrev pub flat : Bool → ℕ → Stress

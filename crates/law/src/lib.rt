@@ -5,7 +5,7 @@ ghost use Prim.Native.Nat.{_*_, _-_, _≤_, _<_};
 ghost use Rattle.section.specs.Accepted.{Accepted};
 ghost use Rattle.law.specs.Law.{flexural, modulus, limitDepth, effectiveDepth, lawOf, lawAnswer};
 ghost use Rattle.law.specs.Stress.{size, ramp, compressed, stretched, bar};
-ghost use Rattle.law.specs.Sizes.{small, sizeIn};
+ghost use Rattle.law.specs.Sizes.{small, Small, sizeIn};
 use section::Section;
 
 // Table 1 of document 002, by fck from 20 to 50 in steps of 5: mean flexural strength in kPa, modulus in N/mm².
@@ -73,12 +73,45 @@ fn numbers(section: Section) -> Law
     }
 }
 
-// The size on the line from (ea, sa) to (eb, sb), at a tension strain of p / q between the two.
-fn ramp_size(ea: u64, sa: u64, eb: u64, sb: u64, p: u64, q: u64) -> u64
+// The sizes below are rounded, in kPa. A strain of 500 t / q, which every strain of a section is, shares its factor with the rule's numbers, so
+// that nothing leaves 64 bits: 4000 is 500 times 8, 4,000,000 is 250,000 times 16.
+
+fn compressed_at(l: Law, t: u64, q: u64) -> u64
+    requires { ⌜ (Small l) × (0 < t) × (q < 65536) ⌝ }
+    ensures { λ r. ⌜ r ≡ size (compressed l (500 * t) q) ⌝ }
+{
+    let fcd = l.fcd as u64;
+    if 4 * q < t {
+        return fcd;
+    }
+    fcd * (t * (8 * q - t)) / (16 * q * q)
+}
+
+// On the line from (ea, sa) to (eb, sb).
+fn ramp_at(ea: u64, sa: u64, eb: u64, sb: u64, p: u64, q: u64) -> u64
     requires { ⌜ (ea * q < p) × (p ≤ eb * q) × (sa < 65536) × (eb < 65536) × (sb < 65536) × (q < 65536) ⌝ }
     ensures { λ r. ⌜ r ≡ size (ramp ea sa eb sb p q) ⌝ }
 {
     (sa * (eb * q - p) + sb * (p - ea * q)) / ((eb - ea) * q)
+}
+
+fn stretched_at(l: Law, p: u64, q: u64) -> u64
+    requires { ⌜ (Small l) × (0 < p) × (q < 65536) ⌝ }
+    ensures { λ r. ⌜ r ≡ size (stretched l p q) ⌝ }
+{
+    let e1 = l.e1 as u64;
+    let e2 = l.e2 as u64;
+    let e3 = l.e3 as u64;
+    if p <= e1 * q {
+        return ramp_at(0, 0, e1, l.s1 as u64, p, q);
+    }
+    if p <= e2 * q {
+        return ramp_at(e1, l.s1 as u64, e2, l.s2 as u64, p, q);
+    }
+    if p <= e3 * q {
+        return ramp_at(e2, l.s2 as u64, e3, l.s3 as u64, p, q);
+    }
+    0
 }
 
 impl Law {
@@ -120,50 +153,28 @@ impl Law {
             & (self.e3 < 65536)
     }
 
-    // The sizes below are rounded, in kPa, at a strain of 500 t / q, which every strain of a section is. The rule's numbers share the
-    // factor: 4000 is 500 times 8 and 4,000,000 is 250,000 times 16, so that nothing leaves 64 bits. No strain, no stress, whatever q is.
-
-    // The concrete in compression; 0 of a law with numbers that no section has.
+    // The rounded size of the concrete's stress at a compression strain of 500 t / q; 0 of a law with numbers that no section has. Without
+    // strain there is no stress, whatever q is.
     pub fn compressed_size(self, t: u32, q: u16) -> u64
         ensures { λ r. ⌜ r ≡ sizeIn self (compressed self (500 * t) q) ⌝ }
     {
-        let t = t as u64;
-        let q = q as u64;
-        let fcd = self.fcd as u64;
         if !self.small() | (t == 0) {
             return 0;
         }
-        if 4 * q < t {
-            return fcd;
-        }
-        fcd * (t * (8 * q - t)) / (16 * q * q)
+        compressed_at(self, t as u64, q as u64)
     }
 
-    // The concrete in tension; 0 of a law with numbers that no section has.
+    // The same at a tension strain.
     pub fn stretched_size(self, t: u32, q: u16) -> u64
         ensures { λ r. ⌜ r ≡ sizeIn self (stretched self (500 * t) q) ⌝ }
     {
-        let p = 500 * (t as u64);
-        let q = q as u64;
-        if !self.small() | (p == 0) {
+        if !self.small() | (t == 0) {
             return 0;
         }
-        let e1 = self.e1 as u64;
-        let e2 = self.e2 as u64;
-        let e3 = self.e3 as u64;
-        if p <= e1 * q {
-            return ramp_size(0, 0, e1, self.s1 as u64, p, q);
-        }
-        if p <= e2 * q {
-            return ramp_size(e1, self.s1 as u64, e2, self.s2 as u64, p, q);
-        }
-        if p <= e3 * q {
-            return ramp_size(e2, self.s2 as u64, e3, self.s3 as u64, p, q);
-        }
-        0
+        stretched_at(self, 500 * (t as u64), q as u64)
     }
 
-    // A bar, in tension as in compression.
+    // The same of a bar, in tension as in compression; of any law, since its numbers are few.
     pub fn bar_size(self, t: u32, q: u16) -> u64
         ensures { λ r. ⌜ r ≡ size (bar self true (500 * t) q) ⌝ }
     {

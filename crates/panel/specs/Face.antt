@@ -1,12 +1,16 @@
--- What the C face answers of a record that is handed over as bytes: 6 first, then what the section's own call answers.
+-- What the C face answers of a record that is handed over as bytes: 6 first, then what is answered of its section.
 use Prim.Native.Nat.{ℕ}
 use mathlib.Core.Bool.{cond}
 use mathlib.Core.List.{List}
 use lib.Dec.{eqb}
 use lib.IntN.{ℤ}
+use Rattle.section.specs.declared.Section.{Section}
 use Rattle.drawn.specs.declared.Drawn.{Drawn}
 use Rattle.drawn.specs.Drawn.{refused, drawnAnswer}
 use Rattle.book.specs.Record.{recordRefusal, sectionIn}
 
+abbrev pub ofRecord : {X : Type 0} → List ℕ → (Section → X) → (ℕ → X) → X
+ofRecord r answered refused = cond (eqb (recordRefusal r) 0) (answered (sectionIn r)) (refused (recordRefusal r))
+
 unfoldable pub drawnOf : List ℕ → ℤ → Drawn
-drawnOf r e = cond (eqb (recordRefusal r) 0) (drawnAnswer (sectionIn r) e) (refused (recordRefusal r))
+drawnOf r e = ofRecord r (λ s. drawnAnswer s e) refused
