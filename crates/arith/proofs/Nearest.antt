@@ -1,14 +1,16 @@
--- How near `round` comes to its fraction: within half a unit of the digits that it keeps. So a quotient below 2 ^ 20 is within 2 ^ -34, and a quotient that is whole is exact. Assumes nothing.
+-- How near a rounded quotient is: within half a unit of the digits that are kept. So one below 2 ^ 20 is within 2 ^ -34, and one that is whole is
+-- exact. Assumes nothing.
 use mathlib.Core.Path.{_≡_, refl, sym, ap, _∙_, subst}
 use mathlib.Core.Bool.{Bool, true, false, not}
 use Prim.Native.Nat.{ℕ, zero, suc, _+_, _-_, _*_, _/_, _%_, _^_, _≤_, _<_, compare, Ordering, Ordering·lt, Ordering·eq, Ordering·gt}
-use native.Mathlib.Nat.{le-trans, le-of-eq, le-of-lt, lt-of-le-of-lt, zero-lt-suc, one-mul, zero-mul, mul-comm, mul-assoc, mul-left-comm, mul-right-comm, add-mul, mul-pos, mul-le-mul-right, mul-le-mul-left, mul-lt-mul-of-pos-right, le-of-mul-le-mul-right, lt-irrefl, div-add-mod', mod-lt, div-lt-iff-lt-mul, suc-mul}
+use native.Mathlib.Nat.{le-trans, le-of-eq, le-of-lt, lt-of-le-of-lt, zero-lt-suc, one-mul, zero-mul, mul-comm, mul-assoc, mul-left-comm, mul-right-comm}
+use native.Mathlib.Nat.{add-mul, mul-pos, mul-le-mul-right, mul-le-mul-left, mul-lt-mul-of-pos-right, le-of-mul-le-mul-right, lt-irrefl, div-add-mod', mod-lt, div-lt-iff-lt-mul, suc-mul}
 use native.Mathlib.Omega.{arith}
 use lib.Dec.{T, isLe, isEq, eqb, leb→le, nleb→lt, eqb→eq, eqb-refl, lit<, lit≤}
 use lib.Arith.{lt-of-le-ne}
 use lib.Pow.{pow-pos, pow-mono, pow-add}
 use lib.IntN.{ℤ, pos, negsuc, natAbs, negℤ, _*ℤ_, zero-*ℤ}
-use lib.Ieee.{Float, nan, inf, fin, binary64, low, up, down, nearest, size, units, round, ofInt}
+use lib.Ieee.{Float, fin, binary64, low, up, down, nearest, size, units, round, ofInt}
 use lib.Ieee.Digits.{size-le}
 use lib.Ieee.Fits.{down-pos, round-is}
 use lib.Ieee.Exact.{HasValue, units-val}
@@ -16,7 +18,7 @@ use lib.Ieee.Nearest.{closest}
 use lib.Ieee.Order.{drop, kept}
 use lib.Ieee.Scale.{grid, overflow}
 use Rattle.arith.specs.Floats.{isNeg, whole, frac, Close, Near}
-use Rattle.arith.proofs.Floats.{round-scale, ofInt-is}
+use Rattle.arith.proofs.Floats.{round-scale, whole-is}
 
 -- ---- a fraction rounded to the nearest whole number is within a half of it
 
@@ -50,7 +52,7 @@ half-at q r b Ordering·gt h l =
     let e : suc q * b ≡ q * b + b = suc-mul q b in
     (omega arith, omega arith)
 
-pub closest-half : (a b : ℕ) → 0 < b → Half (closest a b * b) a b
+closest-half : (a b : ℕ) → 0 < b → Half (closest a b * b) a b
 closest-half a b B = subst (λ (x : ℕ). Half (closest a b * b) x b) (div-add-mod' a b) (half-at (a / b) (a % b) b (compare (a % b * 2) b) (cmp (a % b * 2) b) (mod-lt a B))
 
 -- ---- `round` in units of the format's smallest value
@@ -128,17 +130,16 @@ bound v w g l d n k u c U e h q b = (
 )
 
 -- ---- a quotient below 2 ^ 20 is within 2 ^ -34
-abbrev Within : ℕ → Float → Bool → ℕ → ℕ → Type 0
-Within c nan s n d = ⊥
-Within c (inf t) s n d = ⊥
-Within c (fin t m e) s n d = (t ≡ s) × (m * up e * d * c ≤ n * down e * c + d * down e) × (n * down e * c ≤ m * up e * d * c + d * down e)
-
-round-within : (s : Bool) (n d : ℕ) → 0 < d → n < d * 2 ^ 20 → Within (2 ^ 34) (round binary64 s n d) s n d
-round-within s n d D h = go (round binary64 s n d) (round-val s n d (fine n d D h))
+frac-within : (n : ℤ) (d : ℕ) → 0 < d → natAbs n < d * 2 ^ 20 → Close (2 ^ 34) (frac n d) n d
+frac-within n d D h = go (frac n d) (round-val (isNeg n) k d (fine k d D h))
   where
-    go : (r : Float) → HasValue r s (grid binary64 n d) (2 ^ low binary64) → Within (2 ^ 34) r s n d
-    go (fin t m e) v =
-        let b = bound (m * up e) (down e) (grid binary64 n d) (2 ^ low binary64) d n (2 ^ dropped n d) (2 ^ 1041) (2 ^ 34) (pow-pos 1041) refl (pow-mono (dropped-le n d D h)) (v .1) (grid-half n d D) in
+    k : ℕ
+    k = natAbs n
+
+    go : (r : Float) → HasValue r (isNeg n) (grid binary64 k d) (2 ^ low binary64) → Close (2 ^ 34) r n d
+    go (fin s m e) v =
+        let l = 2 ^ low binary64 in
+        let b = bound (m * up e) (down e) (grid binary64 k d) l d k (2 ^ dropped k d) (2 ^ 1041) (2 ^ 34) (pow-pos 1041) refl (pow-mono (dropped-le k d D h)) (v .1) (grid-half k d D) in
         (v .0, b .0, b .1)
 
 -- a coarser bound
@@ -157,21 +158,22 @@ nought-out u d c x y h =
     let e : 0 * u * d * c ≡ 0 = ap (λ (k : ℕ). k * d * c) (zero-mul u) ∙ ap (λ (k : ℕ). k * c) (zero-mul d) ∙ zero-mul c in
     omega arith
 
-only-zero : (n : ℤ) (d : ℕ) (s : Bool) (e : ℤ) → d < 2 ^ 34 → Within (2 ^ 34) (fin s 0 e) (isNeg n) (natAbs n) d → n ≡ pos 0
+only-zero : (n : ℤ) (d : ℕ) (s : Bool) (e : ℤ) → d < 2 ^ 34 → Close (2 ^ 34) (fin s 0 e) n d → n ≡ pos 0
 only-zero (pos zero) d s e D w = refl
 only-zero (pos (suc k)) d s e D w = absurd (not-lost (suc k) d (down e) (zero-lt-suc k) (down-pos e) D (nought-out (up e) d (2 ^ 34) (d * down e) (suc k * down e * 2 ^ 34) (w .2)))
 only-zero (negsuc k) d s e D w = absurd (not-lost (suc k) d (down e) (zero-lt-suc k) (down-pos e) D (nought-out (up e) d (2 ^ 34) (d * down e) (suc k * down e * 2 ^ 34) (w .2)))
 
-within-close : (r : Float) (n : ℤ) (d : ℕ) → Within (2 ^ 34) r (isNeg n) (natAbs n) d → Close 1000000 r n d
-within-close (fin s m e) n d w = (w .0, coarse (m * up e * d) (natAbs n * down e) (d * down e) (w .1), coarse (natAbs n * down e) (m * up e * d) (d * down e) (w .2))
+coarser : (r : Float) (n : ℤ) (d : ℕ) → Close (2 ^ 34) r n d → Close 1000000 r n d
+coarser (fin s m e) n d w =
+    (w .0, coarse (m * up e * d) (natAbs n * down e) (d * down e) (w .1), coarse (natAbs n * down e) (m * up e * d) (d * down e) (w .2))
 
 -- ---- a quotient that is whole
 frac-neg : (k d a : ℕ) → 0 < k → k ≡ suc a * d → 0 < d → frac (negℤ (pos k)) d ≡ whole (negsuc a)
 frac-neg zero d a K e D = absurd (lt-irrefl 0 K)
-frac-neg (suc k) d a K e D = round-scale binary64 true (suc k) (suc a) d D e ∙ sym (ofInt-is binary64 (negsuc a))
+frac-neg (suc k) d a K e D = round-scale true (suc k) (suc a) d D e ∙ sym (whole-is (negsuc a))
 
 frac-whole : (q : ℤ) (d : ℕ) → 0 < d → frac (q *ℤ pos d) d ≡ whole q
-frac-whole (pos a) d D = round-scale binary64 false (a * d) a d D refl ∙ sym (ofInt-is binary64 (pos a))
+frac-whole (pos a) d D = round-scale false (a * d) a d D refl ∙ sym (whole-is (pos a))
 frac-whole (negsuc a) d D = frac-neg (suc a * d) d a (mul-pos (zero-lt-suc a) D) refl D
 
 plus-zero : whole (pos 0) ≡ fin false 0 (pos 0)
@@ -180,13 +182,13 @@ plus-zero = refl
 
 pub near-frac : (n : ℤ) (d : ℕ) → 0 < d → d < 2 ^ 34 → natAbs n < d * 2 ^ 20 → Near (frac n d) n d
 near-frac n d D W h =
-    let w : Within (2 ^ 34) (frac n d) (isNeg n) (natAbs n) d = round-within (isNeg n) (natAbs n) d D h in
+    let w = frac-within n d D h in
     let whole-is : (q : ℤ) → n ≡ q *ℤ pos d → frac n d ≡ whole q = λ q e. ap (λ (x : ℤ). frac x d) e ∙ frac-whole q d D in
     record {
       proper = D;
-      close = within-close (frac n d) n d w;
+      close = coarser (frac n d) n d w;
       exact = whole-is;
       zero = λ s e r.
-          let z : n ≡ pos 0 = only-zero n d s e W (subst (λ (x : Float). Within (2 ^ 34) x (isNeg n) (natAbs n) d) r w) in
+          let z : n ≡ pos 0 = only-zero n d s e W (subst (λ (x : Float). Close (2 ^ 34) x n d) r w) in
           (z, whole-is (pos 0) (z ∙ sym (zero-*ℤ (pos d))) ∙ plus-zero);
     }

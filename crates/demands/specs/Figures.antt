@@ -1,32 +1,13 @@
 -- Document 01, 'Figures to meet': the figures marked P, as one table.
 use mathlib.Core.Path.{_≡_}
-use lib.IntN.{pos}
-use lib.ListN.{replicate}
-use Rattle.section.specs.declared.Section.{Section}
-use Rattle.section.specs.Section.{noLayer}
 use Rattle.law.specs.declared.Law.{Law}
-use Rattle.law.specs.Law.{effectiveDepth, lawOf}
+use Rattle.law.specs.Law.{lawBy}
 use Rattle.law.specs.Stress.{Is, compressed, stretched}
 use Rattle.class.specs.Class.{classAnswer, classed, refused, letter-a, letter-c, letter-d}
 
--- fck 30, d 250, feq2 3000, feq3 2500: d is h, since there are no bars
-abbrev pub section250 : Section
-section250 = record {
-  b = 1000;
-  h = 250;
-  fck = 30;
-  fyk = 500;
-  feq2 = 3000;
-  feq3 = 2500;
-  load = pos 0;
-  asw = 0;
-  spacing = 0;
-  count = 0;
-  layers = replicate 8 noLayer;
-}
-
+-- fck 30, d 250, feq2 3000, feq3 2500; the bars, of fyk 500, are not in its figures
 abbrev pub law250 : Law
-law250 = lawOf section250
+law250 = lawBy 30 250 500 3000 2500
 
 abbrev pub Figures : Type 0
 Figures =
@@ -36,7 +17,6 @@ Figures =
     × (classAnswer 4000 2000 ≡ classed 4000 letter-a)
     × (classAnswer 4000 1999 ≡ refused 17)
     × (classAnswer 999 5000 ≡ refused 17)
-    × (effectiveDepth section250 ≡ 250)
     × (law250 .s1 ≡ 4536)
     × (law250 .e1 ≡ 141)
     × (law250 .s2 ≡ 1350)

@@ -1,6 +1,5 @@
 -- The answer of `draw`, from that of `Law::of`. Assumes nothing.
-use Prim.Native.Nat.{ℕ}
-use mathlib.Core.Path.{_≡_, refl, sym, ap, _∙_}
+use mathlib.Core.Path.{_≡_, sym, ap, _∙_}
 use mathlib.Core.Bool.{true, false}
 use lib.IntN.{ℤ}
 use borrow.Author.Tests.{ne-eqb}

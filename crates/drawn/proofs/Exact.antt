@@ -1,23 +1,20 @@
 -- At a whole strain, what a piece has over and under the line is exact, so that it is the f64 nearest to the law's fraction. Assumes nothing.
-use Prim.Native.Nat.{ℕ, zero, suc, _+_, _*_, _-_, _≤_, _<_}
-use mathlib.Core.Path.{_≡_, refl, sym, ap, _∙_, subst}
-use mathlib.Core.Bool.{Bool, true, false, cond}
+use Prim.Native.Nat.{ℕ, suc, _+_, _*_, _-_, _≤_, _<_}
+use mathlib.Core.Path.{_≡_, sym, ap, _∙_, subst}
+use mathlib.Core.Bool.{false}
 use native.Mathlib.Nat as NatL
 use native.Mathlib.Omega.{arith}
-use lib.Dec.{leb}
-use lib.IntN.{ℤ, pos, negsuc, negℤ, natAbs, _+ℤ_, _*ℤ_, +ℤ-idl}
+use lib.IntN.{ℤ, pos, negsuc, negℤ}
 use lib.Ieee.{Float, binary64, add, sub, mul, div}
-use borrow.Author.Tests.{leb-true, leb-false}
 use Rattle.arith.specs.Floats.{whole, frac}
-use Rattle.arith.proofs.Floats.{ofInt-is, Loose, add-loose, sub-whole, mul-nonneg, mul-loose, div-whole}
+use Rattle.arith.proofs.Floats.{whole-is, Loose, add-loose, sub-whole, mul-nonneg, mul-loose, div-whole}
 use Rattle.law.specs.declared.Law.{Law}
-use Rattle.law.specs.Edition.{edition}
 use Rattle.law.specs.Ranges.{LawIn}
 use Rattle.law.specs.Stress.{Stress, flat, ramp, parabola, compressed, stretched}
-use Rattle.drawn.specs.declared.Piece.{Piece}
 use Rattle.drawn.specs.declared.Piece.the-variants.{Flat, Parabola}
 use Rattle.drawn.specs.Drawn.{stressAt, drawnStress}
-use Rattle.drawn.specs.Pieces.{evaluated, below, down, stretchedPiece, compressedPiece, pieceAt}
+use Rattle.drawn.specs.Pieces.{evaluated, below, down, pieceAt}
+use Rattle.drawn.proofs.Cases.{compressed-by, stretched-by}
 use Rattle.drawn.proofs.Ends.{less, between, times, plus, size-of}
 
 -- ---- a ramp
@@ -63,7 +60,8 @@ parabola-exact fcd p h k =
     let small = product fcd p h (omega arith) in
     let arch = NatL.mul-le-mul {n₁ = fcd * p} {m₁ = b} {n₂ = 4294967295} {m₂ = 4000} (omega arith) (omega arith) in
     let rest : sub binary64 (mul binary64 (whole (pos 2)) (whole (pos 2000))) (whole (pos p)) ≡ whole (pos b) =
-    ap (λ (x : Float). sub binary64 x (whole (pos p))) (mul-nonneg 2 2000 (omega arith) (omega arith)) ∙ sub-whole (pos 4000) (pos p) (omega arith) (omega arith) ∙ ap whole (less 4000 p (omega arith)) in
+    ap (λ (x : Float). sub binary64 x (whole (pos p))) (mul-nonneg 2 2000 (omega arith) (omega arith))
+    ∙ sub-whole (pos 4000) (pos p) (omega arith) (omega arith) ∙ ap whole (less 4000 p (omega arith)) in
     (λ i. div binary64 (mul binary64 (mul-nonneg fcd p (omega arith) (omega arith) i) (rest i)) (mul-nonneg 2000 2000 (omega arith) (omega arith) i))
     ∙ ap (λ (x : Float). div binary64 x (whole (pos 4000000))) (mul-nonneg (fcd * p) b (omega arith) (omega arith))
     ∙ div-whole (pos (fcd * p * b)) 4000000 (omega arith) (omega arith) (omega arith)
@@ -71,45 +69,12 @@ parabola-exact fcd p h k =
 -- ---- a whole number
 level-exact : (s : ℕ) (e : Float) → evaluated (Flat (whole (pos s))) e ≡ drawnStress (flat false s)
 unfolding evaluated
-level-exact s e = ofInt-is binary64 (pos s)
+level-exact s e = whole-is (pos s)
 
--- ---- the law, test by test
-split :
-    (c d : Bool) (a b : Piece) (t u : Stress) (e : Float)
-    → c ≡ d
-    → (c ≡ true → evaluated a e ≡ drawnStress t)
-    → (c ≡ false → evaluated b e ≡ drawnStress u)
-    → evaluated (cond c a b) e ≡ drawnStress (cond d t u)
-split true d a b t u e k f g = rw (sym k) (f refl)
-split false d a b t u e k f g = rw (sym k) (g refl)
-
--- a test of a strain over 1
-over-one : (p e : ℕ) → leb p e ≡ leb p (e * 1)
-over-one p e = rw (NatL.mul-one e)
-
-module _ (l : Law) (n : LawIn l) where
-  compressed-exact : (p : ℕ) → evaluated (compressedPiece l p) (whole (pos p)) ≡ drawnStress (compressed l p 1)
-  unfolding compressedPiece compressed
-  compressed-exact p =
-      split (leb p 2000) (leb p 2000) _ _ _ _ _ refl (λ h. parabola-exact (l .fcd) p (omega (arith, n .fcd .1)) (leb-true p 2000 h)) (λ h. level-exact (l .fcd) (whole (pos p)))
-
-  stretched-exact : (p : ℕ) → evaluated (stretchedPiece l p) (below p) ≡ drawnStress (stretched l p 1)
-  unfolding stretchedPiece stretched edition
-  stretched-exact p =
-      let s1 : l .s1 < 65536 = omega (arith, n .s1 .1) in
-      let s2 : l .s2 < 65536 = omega (arith, n .s2) in
-      let e2 : l .e2 < 65536 = omega (arith, n .e2 .1) in
-      split (leb p (l .e1)) (leb p (l .e1 * 1)) _ _ _ _ _ (over-one p (l .e1))
-      (λ h. ramp-exact 0 0 (l .e1) (l .s1) p (n .lines .first) (omega arith) (leb-true p (l .e1) h) (omega (arith, n .lines .second)) (omega arith) s1)
-      (λ h1.
-      split (leb p (l .e2)) (leb p (l .e2 * 1)) _ _ _ _ _ (over-one p (l .e2))
-      (λ h. ramp-exact (l .e1) (l .s1) (l .e2) (l .s2) p (n .lines .second) (omega (arith, leb-false p (l .e1) h1)) (leb-true p (l .e2) h) e2 s1 s2)
-      (λ h2.
-      split (leb p (l .e3)) (leb p (l .e3 * 1)) _ _ _ _ _ (over-one p (l .e3))
-      (λ h. ramp-exact (l .e2) (l .s2) (l .e3) (l .s3) p (n .lines .third) (omega (arith, leb-false p (l .e2) h2)) (leb-true p (l .e3) h) (omega (arith, n .e3)) s2 (omega (arith, n .s3)))
-      (λ h. level-exact 0 (below p))))
-
-  pub drawn-exactly : (e : ℤ) → evaluated (pieceAt l e) (whole e) ≡ drawnStress (stressAt l e)
-  unfolding pieceAt
-  drawn-exactly (pos p) = compressed-exact p
-  drawn-exactly (negsuc k) = stretched-exact (suc k)
+-- ---- the law
+pub drawn-exactly : (l : Law) → LawIn l → (e : ℤ) → evaluated (pieceAt l e) (whole e) ≡ drawnStress (stressAt l e)
+unfolding pieceAt
+drawn-exactly l n (pos p) =
+    compressed-by (λ a t. evaluated a (whole (pos p)) ≡ drawnStress t) l n p (parabola-exact (l .fcd) p (omega (arith, n .fcd .1))) (level-exact (l .fcd) (whole (pos p)))
+drawn-exactly l n (negsuc k) =
+    stretched-by (λ a t. evaluated a (below (suc k)) ≡ drawnStress t) l n (suc k) (λ ea sa eb sb. ramp-exact ea sa eb sb (suc k)) (level-exact 0 (below (suc k)))

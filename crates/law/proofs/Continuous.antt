@@ -1,5 +1,5 @@
 -- The pieces of the law meet: at e1, e2 and e3 each line is the strength that they are named for, and the parabola ends in the plateau. Assumes nothing.
-use Prim.Native.Nat.{ℕ, _+_, _*_, _-_, _<_}
+use Prim.Native.Nat.{ℕ, _*_, _-_, _<_}
 use mathlib.Core.Path.{_≡_, refl, sym, ap, _∙_}
 use mathlib.Core.Bool.{Bool, true, false, cond}
 use native.Mathlib.Nat as NatL

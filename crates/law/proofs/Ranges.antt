@@ -1,19 +1,19 @@
 -- The ranges of a section's depths and of its law's numbers, where it is accepted. Assumes nothing.
-use Prim.Native.Nat.{ℕ, zero, suc, _+_, _*_, _-_, _/_, _≤_, _<_}
+use Prim.Native.Nat.{ℕ, zero, suc, _*_, _-_, _≤_, _<_}
 use mathlib.Core.Path.{_≡_, refl}
-use mathlib.Core.Bool.{Bool, true, false, cond, _&&_}
+use mathlib.Core.Bool.{true, cond, _&&_}
 use mathlib.Core.List.{List, [], _∷_}
 use native.Mathlib.Nat as NatL
 use native.Mathlib.Omega.{arith}
 use lib.Dec.{leb, eqb, eqb·suc-zero}
 use lib.ListN.{getD}
-use borrow.Author.Tests.{leb-true, eqb-false}
+use borrow.Author.Tests.{leb-true}
 use Rattle.arith.proofs.Tests.{both, allBelow, all-below}
 use Rattle.section.specs.declared.Section.{Section}
 use Rattle.section.specs.Section.{layerAt}
 use Rattle.section.specs.Accepted.{Accepted}
 use Rattle.law.specs.Edition.{edition}
-use Rattle.law.specs.Law.{column, flexural, modulus, limitDepth, effectiveDepth, s1Of, e1Of, lawOf}
+use Rattle.law.specs.Law.{column, flexural, modulus, limitDepth, effectiveDepth, s1Of, e1Of, lawBy, lawOf}
 use Rattle.law.specs.Ranges.{LawIn}
 
 -- ---- Table 1
@@ -55,20 +55,20 @@ s1-product {s} a =
     let d = depth-in a in
     (NatL.mul-le-mul {n₁ = 25900} {m₁ = 600} (omega arith) (omega arith), NatL.mul-le-mul {n₂ = 47600} {m₂ = 1600} (omega arith) (omega arith))
 
-pub s1-in : {s : Section} → Accepted s → (1554 ≤ s1Of s) × (s1Of s ≤ 7616)
+pub s1-in : {s : Section} → Accepted s → (1554 ≤ s1Of (s .fck) (effectiveDepth s)) × (s1Of (s .fck) (effectiveDepth s) ≤ 7616)
 unfolding s1Of
 s1-in a = let p = s1-product a in (omega arith, omega arith)
 
-pub e1-in : {s : Section} → Accepted s → (42 ≤ e1Of s) × (e1Of s ≤ 262)
+pub e1-in : {s : Section} → Accepted s → (42 ≤ e1Of (s .fck) (effectiveDepth s)) × (e1Of (s .fck) (effectiveDepth s) ≤ 262)
 unfolding e1Of
 e1-in {s} a =
     let m = modulus-in a in
     let k = s1-in a in
     let p : 0 < modulus (s .fck) = omega arith in
-    (NatL.le-div-iff-mul-le p .1 (omega arith), omega (arith, NatL.div-lt-iff-lt-mul {x = 1000 * s1Of s} {y = 263} p .1 (omega arith)))
+    (NatL.le-div-iff-mul-le p .1 (omega arith), omega (arith, NatL.div-lt-iff-lt-mul {x = 1000 * s1Of (s .fck) (effectiveDepth s)} {y = 263} p .1 (omega arith)))
 
 pub law-in : {s : Section} → Accepted s → LawIn (lawOf s)
-unfolding lawOf edition
+unfolding lawBy edition
 law-in {s} a =
     let k = s1-in a in
     let e = e1-in a in

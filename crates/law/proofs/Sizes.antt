@@ -1,6 +1,6 @@
 -- The rounded sizes as the code computes them, without the factors that numerator and denominator share. Assumes nothing.
 use Prim.Native.Nat.{ℕ, zero, suc, _+_, _*_, _-_, _/_, _≤_, _<_}
-use mathlib.Core.Path.{_≡_, refl, sym, ap, _∙_}
+use mathlib.Core.Path.{_≡_, sym, ap, _∙_}
 use mathlib.Core.Bool.{Bool, true, false, not, _&&_, _||_, true≢false}
 use native.Mathlib.Nat as NatL
 use native.Mathlib.Omega.{arith}
@@ -8,7 +8,7 @@ use lib.Dec.{ltb, eqb}
 use mir.Syntax.{w64}
 use mir.Val.{Fits}
 use borrow.Author.Tests.{ltb-true, lt-ltb, le-leb, lt-leb, eqb-true, eqb-false}
-use Rattle.arith.proofs.Tests.{both, neither}
+use Rattle.arith.proofs.Tests.{both}
 use Rattle.section.specs.declared.Section.{Section}
 use Rattle.section.specs.Accepted.{Accepted}
 use Rattle.law.specs.declared.Law.{Law}
@@ -60,7 +60,11 @@ product-fits a b h k = omega (arith, NatL.mul-le-mul {n₁ = a} {m₁ = b} {n₂
 
 -- ---- compression
 shared : (a t u : ℕ) → a * (500 * t) * (500 * u) ≡ 250000 * (a * (t * u))
-shared a t u = ap (λ m. m * (500 * u)) (NatL.mul-left-comm a 500 t) ∙ NatL.mul-assoc 500 (a * t) (500 * u) ∙ ap (λ m. 500 * m) (NatL.mul-left-comm (a * t) 500 u ∙ ap (λ m. 500 * m) (NatL.mul-assoc a t u)) ∙ omega arith
+shared a t u =
+    ap (λ m. m * (500 * u)) (NatL.mul-left-comm a 500 t)
+    ∙ NatL.mul-assoc 500 (a * t) (500 * u)
+    ∙ ap (λ m. 500 * m) (NatL.mul-left-comm (a * t) 500 u ∙ ap (λ m. 500 * m) (NatL.mul-assoc a t u))
+    ∙ omega arith
 
 module _ (l : Law) (t q : ℕ) where
   pub compressed-none : t ≡ 0 → size (compressed l (500 * t) q) ≡ 0

@@ -1,7 +1,7 @@
 -- Document 01, 'Stress at a strain': the whole numbers of a section's law. Stress in kPa, strain in millionths, each number rounded down.
 use Prim.Native.Nat.{ℕ, _+_, _*_, _-_, _/_}
 use mathlib.Core.Bool.{cond}
-use mathlib.Core.List.{List, [], _∷_}
+use mathlib.Core.List.{[], _∷_}
 use lib.Dec.{eqb}
 use lib.ListN.{getD}
 use Rattle.section.specs.declared.Section.{Section}
@@ -33,23 +33,27 @@ unfoldable pub effectiveDepth : Section → ℕ
 effectiveDepth s = limitDepth s
 
 -- ---- the whole numbers
-unfoldable pub s1Of : Section → ℕ
-s1Of s = 7 * flexural (s .fck) * (1600 - effectiveDepth s) / 10000
+unfoldable pub s1Of : ℕ → ℕ → ℕ
+s1Of fck d = 7 * flexural fck * (1600 - d) / 10000
 
-unfoldable pub e1Of : Section → ℕ
-e1Of s = 1000 * s1Of s / modulus (s .fck)
+unfoldable pub e1Of : ℕ → ℕ → ℕ
+e1Of fck d = 1000 * s1Of fck d / modulus fck
 
-unfoldable pub lawOf : Section → Law
-lawOf s = record {
-  fcd = s .fck * 1000 * 17 / 30;
-  s1 = s1Of s;
-  e1 = e1Of s;
-  e2 = e1Of s + 100;
-  s2 = 45 * s .feq2 / 100;
-  s3 = 37 * s .feq3 / 100;
+-- the law by the numbers that it hangs on
+unfoldable pub lawBy : (fck d fyk feq2 feq3 : ℕ) → Law
+lawBy fck d fyk feq2 feq3 = record {
+  fcd = fck * 1000 * 17 / 30;
+  s1 = s1Of fck d;
+  e1 = e1Of fck d;
+  e2 = e1Of fck d + 100;
+  s2 = 45 * feq2 / 100;
+  s3 = 37 * feq3 / 100;
   e3 = edition .e3;
-  fyd = s .fyk * 1000 * 100 / 115;
+  fyd = fyk * 1000 * 100 / 115;
 }
+
+abbrev pub lawOf : Section → Law
+lawOf s = lawBy (s .fck) (effectiveDepth s) (s .fyk) (s .feq2) (s .feq3)
 
 abbrev pub answered : Law → LawAnswer
 answered law = record { refusal = 0; law = law }

@@ -3,7 +3,7 @@ ghost use mathlib.Core.Path.{_≡_};
 ghost use mathlib.Core.Bool.{true};
 ghost use Prim.Native.Nat.{_*_, _-_, _≤_, _<_};
 ghost use Rattle.section.specs.Accepted.{Accepted};
-ghost use Rattle.law.specs.Law.{flexural, modulus, limitDepth, effectiveDepth, lawOf, lawAnswer};
+ghost use Rattle.law.specs.Law.{limitDepth, effectiveDepth, lawOf, lawAnswer};
 ghost use Rattle.law.specs.Stress.{size, ramp, compressed, stretched, bar};
 ghost use Rattle.law.specs.Sizes.{small, Small, sizeIn};
 use section::Section;

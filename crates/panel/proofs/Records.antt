@@ -5,7 +5,7 @@ use mathlib.Core.List.{List}
 use borrow.Author.Tests.{ne-eqb}
 use Rattle.section.specs.declared.Section.{Section}
 use Rattle.book.specs.declared.SectionAnswer.{SectionAnswer}
-use Rattle.book.specs.Record.{recordRefusal, sectionIn, sectionAnswer}
+use Rattle.book.specs.Record.{recordRefusal, sectionAnswer}
 use Rattle.book.proofs.Answers.{answer-refusal, answer-section}
 use Rattle.panel.specs.Face.{ofRecord}
 

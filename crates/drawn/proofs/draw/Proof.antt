@@ -18,20 +18,20 @@ in-range : (c : tie.Else2) → inDrawnRange (c .before .before .before .before .
 in-range c = sym (range (c .before)) ∙ not-false _ (c .if2 .left)
 
 returns : tie.Need-returns
-returns c = c .refused .ensures ∙ refuses-section (c .before .before .before .before .args .section) (c .before .before .before .before .args .strain) _ (c .before .before .before .of .ensures) (c .before .if1 .taken)
+returns c = c .refused .ensures ∙ refuses-section _ _ _ (c .before .before .before .of .ensures) (c .before .if1 .taken)
 
 returns-2 : tie.Need-returns-2
 returns-2 c =
     c .refused2 .ensures
-    ∙ refuses-strain (c .before .before .before .before .before .before .args .section) (c .before .before .before .before .before .before .args .strain) _ (c .before .before .before .before .before .of .ensures) (c .before .before .before .if1 .left) (sym (range (c .before .before)) ∙ not-true _ (c .before .if2 .taken))
+    ∙ refuses-strain _ _ _ (c .before .before .before .before .before .of .ensures) (c .before .before .before .if1 .left) (sym (range (c .before .before)) ∙ not-true _ (c .before .if2 .taken))
 
 piece-at-requires : tie.Need-piece-at-requires
-piece-at-requires c κs = rw (read32 (c .before .before .before .before .before .before .fits .strain)) (drawn-size (c .before .before .before .before .before .before .args .strain) (in-range (c .before)))
+piece-at-requires c κs = rw (read32 (c .before .before .before .before .before .before .fits .strain)) (drawn-size _ (in-range (c .before)))
 
 returns-3 : tie.Need-returns-3
 returns-3 c =
     rw (c .at .ensures, c .before .piece-at .ensures, read32 (c .before .before .before .before .before .before .before .before .fits .strain))
-    (draws (c .before .before .before .before .before .before .before .before .args .section) (c .before .before .before .before .before .before .before .before .args .strain) _ (c .before .before .before .before .before .before .before .of .ensures) (c .before .before .before .before .before .if1 .left) (in-range (c .before .before .before)))
+    (draws _ _ _ (c .before .before .before .before .before .before .before .of .ensures) (c .before .before .before .before .before .if1 .left) (in-range (c .before .before .before)))
 
 pub draw-spec : {M : Type 1} → statement M
 draw-spec =

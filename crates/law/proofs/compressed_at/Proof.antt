@@ -11,13 +11,13 @@ some : (c : tie.Else1) → 0 < c .before .before .args .q
 some c = omega arith
 
 returns : tie.Need-returns
-returns c = compressed-level _ _ (c .before .before .args .q) (omega arith)
+returns c = compressed-level _ _ _ (omega arith)
 
 mul-result-2 : tie.Need-mul-result-2
 mul-result-2 c = omega (arith, arch (c .before .before .args .t) (c .before .before .args .q) (omega arith) (omega arith))
 
 returns-2 : tie.Need-returns-2
-returns-2 c = compressed-rises (c .before .before .args .l) _ _ (some c) (omega arith)
+returns-2 c = compressed-rises _ _ _ (some c) (omega arith)
 
 pub compressed-at-spec : {M : Type 1} → statement M
 compressed-at-spec =

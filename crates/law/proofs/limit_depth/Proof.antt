@@ -20,7 +20,10 @@ unfolding limitDepth
 returns-2 c =
     let s = c .before .before .args .t1 in
     let long : length (s .layers) ≡ 8 = search (needs, length-mapped) in
-    rw (ne-eqb (c .before .before .args .t1 .count) 0 (c .before .if1 .left), List·getD-eq-default (c .before .before .args .t1 .layers) noLayer {n = c .before .before .args .t1 .count - 1} (omega arith))
+    rw (
+      ne-eqb (c .before .before .args .t1 .count) 0 (c .before .if1 .left),
+      List·getD-eq-default (c .before .before .args .t1 .layers) noLayer {n = c .before .before .args .t1 .count - 1} (omega arith),
+    )
 
 returns-3 : tie.Need-returns-3
 unfolding limitDepth

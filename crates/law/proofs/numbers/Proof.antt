@@ -2,7 +2,7 @@
 use native.Mathlib.Omega.{arith}
 use borrow.Author.Needs.{needs}
 use Rattle.law.specs.Edition.{edition}
-use Rattle.law.specs.Law.{flexural, modulus, s1Of, e1Of, lawOf}
+use Rattle.law.specs.Law.{flexural, modulus, s1Of, e1Of, lawBy}
 use Rattle.law.proofs.Ranges.{flexural-in, modulus-in, depth-in, s1-product, s1-in, e1-in}
 use Rattle.law.proofs.numbers.Statement.{statement}
 use Rattle.law.proofs.numbers.Tie as tie
@@ -31,7 +31,7 @@ unfolding flexural modulus s1Of e1Of
 add-t12 c = rw (c .before .effective-depth .ensures) (omega (arith, e1-in (c .before .before .before .pre) .1))
 
 returns : tie.Need-returns
-unfolding flexural modulus s1Of e1Of lawOf edition
+unfolding flexural modulus s1Of e1Of lawBy edition
 returns c = rw (c .before .before .before .before .effective-depth .ensures)
 
 pub numbers-spec : {M : Type 1} → statement M

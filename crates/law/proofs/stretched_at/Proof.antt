@@ -7,16 +7,16 @@ use Rattle.law.proofs.stretched_at.Statement.{statement}
 use Rattle.law.proofs.stretched_at.Tie as tie
 
 returns : tie.Need-returns
-returns c = c .ramp-at .ensures ∙ stretched-first (c .before .before .before .before .before .before .args .l) _ _ (omega arith)
+returns c = c .ramp-at .ensures ∙ stretched-first _ _ _ (omega arith)
 
 returns-2 : tie.Need-returns-2
-returns-2 c = c .ramp-at2 .ensures ∙ stretched-second (c .before .before .before .before .before .before .before .before .args .l) _ _ (omega arith) (omega arith)
+returns-2 c = c .ramp-at2 .ensures ∙ stretched-second _ _ _ (omega arith) (omega arith)
 
 returns-3 : tie.Need-returns-3
-returns-3 c = c .ramp-at3 .ensures ∙ stretched-third (c .before .before .before .before .before .before .before .before .before .args .l) _ _ (omega arith) (omega arith) (omega arith)
+returns-3 c = c .ramp-at3 .ensures ∙ stretched-third _ _ _ (omega arith) (omega arith) (omega arith)
 
 returns-4 : tie.Need-returns-4
-returns-4 c = stretched-beyond (c .before .before .before .before .before .before .args .l) (c .before .before .before .before .before .before .args .p) (c .before .before .before .before .before .before .args .q) (omega arith) (omega arith) (omega arith)
+returns-4 c = stretched-beyond _ _ _ (omega arith) (omega arith) (omega arith)
 
 pub stretched-at-spec : {M : Type 1} → statement M
 stretched-at-spec =

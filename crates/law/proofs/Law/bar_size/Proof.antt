@@ -7,13 +7,13 @@ use Rattle.law.proofs.Law.bar_size.Statement.{statement}
 use Rattle.law.proofs.Law.bar_size.Tie as tie
 
 returns : tie.Need-returns
-returns c = bar-none (c .before .before .args .self) _ (c .before .before .args .q) (c .if1 .taken)
+returns c = bar-none _ _ _ (c .if1 .taken)
 
 returns-2 : tie.Need-returns-2
-returns-2 c = bar-yields (c .before .before .before .args .self) (c .before .before .before .args .t) (c .before .before .before .args .q) (omega arith)
+returns-2 c = bar-yields _ _ _ (omega arith)
 
 returns-3 : tie.Need-returns-3
-returns-3 c = bar-elastic (c .before .before .before .args .self) _ _ (omega arith)
+returns-3 c = bar-elastic _ _ _ (omega arith)
 
 pub bar-size-spec : {M : Type 1} → statement M
 bar-size-spec =

@@ -13,7 +13,7 @@ works : (c : tie.Else1) → (small (c .before .before .args .self) ≡ true) × 
 works c = busy (c .before .before .args .self) _ (c .before .before .args .t) (c .before .small .ensures) (c .if1 .left)
 
 returns : tie.Need-returns
-returns c = idle _ _ _ (c .before .before .args .t) (c .before .small .ensures) (c .if1 .taken) (compressed-none (c .before .before .args .self) (c .before .before .args .t) (c .before .before .args .q))
+returns c = idle _ _ _ (c .before .before .args .t) (c .before .small .ensures) (c .if1 .taken) (compressed-none _ _ _)
 
 compressed-at-requires : tie.Need-compressed-at-requires
 compressed-at-requires c κs = (smalls _ (works c .0), omega (arith, works c .1), omega arith)

@@ -1,5 +1,5 @@
 -- `Law::stretched_size`: nothing of a law or a strain that is passed over, else what `stretched_at` gives. Assumes nothing.
-use Prim.Native.Nat.{_*_, _<_}
+use Prim.Native.Nat.{_<_}
 use mathlib.Core.Path.{_≡_}
 use mathlib.Core.Bool.{true}
 use native.Mathlib.Omega.{arith}
@@ -13,7 +13,7 @@ works : (c : tie.Else1) → (small (c .before .before .args .self) ≡ true) × 
 works c = busy (c .before .before .args .self) _ (c .before .before .args .t) (c .before .small .ensures) (c .if1 .left)
 
 returns : tie.Need-returns
-returns c = idle _ _ _ (c .before .before .args .t) (c .before .small .ensures) (c .if1 .taken) (λ e. stretched-none (c .before .before .args .self) (500 * c .before .before .args .t) (c .before .before .args .q) (omega arith))
+returns c = idle _ _ _ (c .before .before .args .t) (c .before .small .ensures) (c .if1 .taken) (λ e. stretched-none _ _ _ (omega arith))
 
 stretched-at-requires : tie.Need-stretched-at-requires
 stretched-at-requires c κs = (smalls _ (works c .0), omega (arith, works c .1), omega arith)
