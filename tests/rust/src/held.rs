@@ -1,6 +1,6 @@
 //! Cases for `tests/c/held.c`, the program that calls the C face and compares. It is a process of its own since the static library is
 //! x86-64 code and these tests are code for the machine at hand.
-use crate::rules::Class;
+use crate::rules::{Class, Drawn};
 use std::io::{BufWriter, Write};
 use std::process::{Child, ChildStdin, Command, Stdio};
 
@@ -35,6 +35,20 @@ impl Held {
         for number in [class.refusal, class.step, class.letter] {
             case.extend(number.to_le_bytes());
         }
+        self.case(&case);
+    }
+
+    /// That `fw_draw` gives this point, bit for bit.
+    pub fn draw(&mut self, record: &[u8], strain: i32, drawn: Drawn) {
+        let (refusal, drawn_strain, stress) = drawn.bits();
+        let len = u16::try_from(record.len()).unwrap();
+        let mut case = vec![b'd'];
+        case.extend(len.to_le_bytes());
+        case.extend(record);
+        case.extend(strain.to_le_bytes());
+        case.extend(refusal.to_le_bytes());
+        case.extend(drawn_strain.to_le_bytes());
+        case.extend(stress.to_le_bytes());
         self.case(&case);
     }
 

@@ -1,0 +1,117 @@
+//! What a section is, what is refused of it, and its record.
+use super::law::TABLE;
+use std::ops::RangeInclusive;
+
+#[derive(Debug, Clone, Copy, PartialEq, Eq)]
+pub struct Layer {
+    pub depth: u16,
+    pub area: u16,
+}
+
+#[derive(Debug, Clone, PartialEq, Eq)]
+pub struct Section {
+    pub b: u16,
+    pub h: u16,
+    pub fck: u16,
+    pub fyk: u16,
+    pub feq2: u16,
+    pub feq3: u16,
+    pub load: i32,
+    pub asw: u16,
+    pub spacing: u16,
+    pub layers: Vec<Layer>,
+}
+
+impl Section {
+    /// The section of a lone record, or its refusal, 6 to 13.
+    pub fn of(record: &[u8]) -> Result<Section, u32> {
+        let section = Section::read(record).ok_or(6u32)?;
+        section.refusal().map_or(Ok(section), Err)
+    }
+
+    fn read(record: &[u8]) -> Option<Section> {
+        let words: Vec<u16> = record
+            .chunks_exact(2)
+            .map(|word| u16::from_le_bytes([word[0], word[1]]))
+            .collect();
+        let &[b, h, fck, fyk, feq2, feq3, low, high, asw, spacing, m, 0, ref bars @ ..] =
+            words.as_slice()
+        else {
+            return None;
+        };
+        let right = record.len() == 24 + 4 * usize::from(m) && m <= 8;
+        let layer = |bar: &[u16]| Layer {
+            depth: bar[0],
+            area: bar[1],
+        };
+        right.then(|| Section {
+            b,
+            h,
+            fck,
+            fyk,
+            feq2,
+            feq3,
+            load: (u32::from(high) << 16 | u32::from(low)) as i32,
+            asw,
+            spacing,
+            layers: bars.chunks_exact(2).map(layer).collect(),
+        })
+    }
+
+    /// The bytes of its record.
+    pub fn record(&self) -> Vec<u8> {
+        let load = self.load as u32;
+        let head = [
+            self.b,
+            self.h,
+            self.fck,
+            self.fyk,
+            self.feq2,
+            self.feq3,
+            load as u16,
+            (load >> 16) as u16,
+            self.asw,
+            self.spacing,
+            self.layers.len() as u16,
+            0,
+        ];
+        let bars = self.layers.iter().flat_map(|bar| [bar.depth, bar.area]);
+        head.into_iter()
+            .chain(bars)
+            .flat_map(u16::to_le_bytes)
+            .collect()
+    }
+
+    /// The first of 7 to 13 that holds.
+    pub fn refusal(&self) -> Option<u32> {
+        let inside = |limits: RangeInclusive<u16>, n| limits.contains(&n);
+        let lines = [
+            (7, TABLE.iter().any(|concrete| concrete.fck == self.fck)),
+            (8, inside(50..=2000, self.b) && inside(50..=1000, self.h)),
+            (9, inside(400..=600, self.fyk)),
+            (10, self.feq2.max(self.feq3) <= 20_000),
+            (11, self.load.unsigned_abs() <= 10_000_000),
+            (12, self.bars_right()),
+            (13, self.asw == 0 || self.spacing != 0),
+        ];
+        let failed = lines.into_iter().find(|(_, passes)| !passes);
+        failed.map(|(number, _)| number)
+    }
+
+    fn bars_right(&self) -> bool {
+        let below_middle = |depth| 2 * u32::from(depth) > u32::from(self.h);
+        self.layers.is_sorted_by(|a, b| a.depth < b.depth)
+            && self.depths().all(|depth| (1..self.h).contains(&depth))
+            && self.layers.iter().all(|layer| layer.area != 0)
+            && self.depths().max().is_none_or(below_middle)
+    }
+
+    fn depths(&self) -> impl Iterator<Item = u16> + '_ {
+        self.layers.iter().map(|layer| layer.depth)
+    }
+
+    /// d: the depth of the deepest layer, or h without bars.
+    pub fn effective_depth(&self) -> u16 {
+        self.depths().max().unwrap_or(self.h)
+    }
+}

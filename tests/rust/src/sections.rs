@@ -1,0 +1,126 @@
+//! Random sections and records, for the tests of what is asked of a record.
+use crate::random::Random;
+use crate::rules::{Layer, Section, TABLE};
+use std::collections::BTreeSet;
+
+/// A number of a range, one time in four an end of it: there a wrong comparison shows.
+fn number(random: &mut Random, low: u16, high: u16) -> u16 {
+    let inside = random.within(low.into()..=high.into()) as u16;
+    random.pick(&[low, high, inside, inside, inside, inside, inside, inside])
+}
+
+fn layers(random: &mut Random, h: u16) -> Vec<Layer> {
+    let count = random.within(0..=8) as usize;
+    let deepest = number(random, h / 2 + 1, h - 1);
+    let mut depths = BTreeSet::from([deepest]);
+    while depths.len() < count {
+        depths.insert(number(random, 1, deepest));
+    }
+    let layer = |depth| Layer {
+        depth,
+        area: number(random, 1, u16::MAX),
+    };
+    depths.into_iter().take(count).map(layer).collect()
+}
+
+/// A section that is accepted.
+pub fn accepted(random: &mut Random) -> Section {
+    let h = number(random, 50, 1000);
+    let load = random.within(-10_000_000..=10_000_000);
+    let asw = number(random, 0, u16::MAX);
+    Section {
+        b: number(random, 50, 2000),
+        h,
+        fck: TABLE[random.within(0..=6) as usize].fck,
+        fyk: number(random, 400, 600),
+        feq2: number(random, 0, 20_000),
+        feq3: number(random, 0, 20_000),
+        load: random.pick(&[-10_000_000, 10_000_000, load, load, load, load]),
+        asw,
+        spacing: number(random, u16::from(asw != 0), u16::MAX),
+        layers: layers(random, h),
+    }
+}
+
+/// What makes a section wrong, in the order of the refusals.
+const FAULTS: [fn(&mut Section, &mut Random); 14] = [
+    |section, random| {
+        let layer = |j| Layer {
+            depth: section.h / 2 + j,
+            area: 1,
+        };
+        // 264 is 8 in its lower byte; 16,000 layers are some 64,000 bytes.
+        let count = random.pick(&[9, 10, 264, 16_000]);
+        section.layers = (1..=count).map(layer).collect();
+    },
+    |section, random| section.fck = random.pick(&[0, 19, 21, 49, 51, 55, u16::MAX]),
+    |section, random| section.b = random.pick(&[0, 49, 2001, u16::MAX]),
+    |section, random| section.h = random.pick(&[0, 49, 1001, u16::MAX]),
+    |section, random| section.fyk = random.pick(&[0, 399, 601, u16::MAX]),
+    |section, random| section.feq2 = random.pick(&[20_001, u16::MAX]),
+    |section, random| section.feq3 = random.pick(&[20_001, u16::MAX]),
+    |section, random| section.load = random.pick(&[i32::MIN, -10_000_001, 10_000_001, i32::MAX]),
+    |section, random| {
+        let depths = [0, section.h, section.h / 2, u16::MAX];
+        if let Some(layer) = any_layer(section, random) {
+            layer.depth = random.pick(&depths);
+        }
+    },
+    |section, random| {
+        if let Some(layer) = any_layer(section, random) {
+            layer.area = 0;
+        }
+    },
+    |section, random| {
+        let taken = section.layers.first().copied();
+        if let (Some(taken), Some(layer)) = (taken, any_layer(section, random)) {
+            layer.depth = taken.depth;
+        }
+    },
+    |section, _| section.layers.reverse(),
+    |section, _| {
+        let middle = section.h / 2;
+        section.layers.retain(|layer| layer.depth <= middle);
+    },
+    |section, random| {
+        section.asw = random.pick(&[1, u16::MAX]);
+        section.spacing = 0;
+    },
+];
+
+fn any_layer<'a>(section: &'a mut Section, random: &mut Random) -> Option<&'a mut Layer> {
+    let count = section.layers.len();
+    let at = random.number() as usize % count.max(1);
+    section.layers.get_mut(at)
+}
+
+/// What makes a record wrong that no section makes wrong.
+const DAMAGES: [fn(&mut Vec<u8>, &mut Random); 5] = [
+    |record, random| record.truncate(random.within(0..=record.len() as i32) as usize),
+    |record, random| record.extend((0..random.within(1..=8)).map(|_| 0)),
+    |record, random| set(record, random.pick(&[22, 23]), random),
+    |record, random| set(record, random.pick(&[20, 21]), random),
+    |record, random| {
+        let at = random.number() as usize % record.len().max(1);
+        set(record, at, random);
+    },
+];
+
+fn set(record: &mut [u8], at: usize, random: &mut Random) {
+    if let Some(byte) = record.get_mut(at) {
+        *byte = random.pick(&[0, 1, 8, 9, 128, 255]);
+    }
+}
+
+/// A record with up to three faults and damages, so that their order counts; some do no harm where they fall.
+pub fn damaged(random: &mut Random) -> Vec<u8> {
+    let mut section = accepted(random);
+    for _ in 0..random.within(0..=3) {
+        random.pick(&FAULTS)(&mut section, random);
+    }
+    let mut record = section.record();
+    if random.within(0..=3) == 0 {
+        random.pick(&DAMAGES)(&mut record, random);
+    }
+    record
+}
