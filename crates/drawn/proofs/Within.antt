@@ -5,7 +5,7 @@ use mathlib.Core.Bool.{Bool, true, false}
 use native.Mathlib.Nat as NatL
 use native.Mathlib.Omega.{arith}
 use lib.IntN.{ℤ, pos, negsuc, natAbs}
-use Rattle.arith.specs.Floats.{Holds, Near}
+use Rattle.arith.specs.Floats.{Near}
 use Rattle.arith.proofs.Floats.{holds}
 use Rattle.arith.proofs.Nearest.{near-frac}
 use Rattle.section.specs.declared.Section.{Section}
@@ -17,7 +17,7 @@ use Rattle.law.specs.Law.{lawOf}
 use Rattle.law.specs.Ranges.{LawIn}
 use Rattle.law.specs.Stress.{Stress, signed, flat, ramp, parabola}
 use Rattle.law.proofs.Ranges.{law-in}
-use Rattle.drawn.specs.Drawn.{stressAt, drawnStress, inDrawnRange, drawnRefusal, drawnAnswer}
+use Rattle.drawn.specs.Drawn.{stressAt, drawnStress, PointNear, inDrawnRange, drawnRefusal, drawnAnswer}
 use Rattle.drawn.proofs.Cases.{compressed-by, stretched-by}
 use Rattle.drawn.proofs.Ends.{size-of}
 use Rattle.drawn.proofs.Strains.{drawn-size}
@@ -58,11 +58,7 @@ fine : (l : Law) → LawIn l → (e : ℤ) → Fine (stressAt l e)
 fine l n (pos p) = compressed-by (λ a t. Fine t) l n p (parabola-fine (l .fcd) p (n .fcd .1)) (level-fine false (l .fcd) (omega (arith, n .fcd .1)))
 fine l n (negsuc k) = stretched-by (λ a t. Fine t) l n (suc k) (λ ea sa eb sb. ramp-fine ea sa eb sb (suc k)) (level-fine true 0 (omega arith))
 
-pub point-near :
-    (s : Section) (e : ℤ)
-    → drawnRefusal s e ≡ 0
-    → Holds (drawnAnswer s e .point .strain) e
-    × Near (drawnAnswer s e .point .stress) (signed (stressAt (lawOf s) e .pulls) (stressAt (lawOf s) e .num)) (stressAt (lawOf s) e .den)
+pub point-near : (s : Section) (e : ℤ) → drawnRefusal s e ≡ 0 → PointNear (lawOf s) e (drawnAnswer s e .point)
 unfolding drawnAnswer drawnRefusal
 point-near s e h =
     let p = none-of (sectionRefusal s) (line (inDrawnRange e) 18 0) h in

@@ -5,7 +5,7 @@ use lib.Dec.{eqb}
 use lib.IntN.{ℤ, pos, negℤ, natAbs}
 use lib.Signed.{leZ}
 use lib.Ieee.{Float}
-use Rattle.arith.specs.Floats.{isNeg, whole, frac}
+use Rattle.arith.specs.Floats.{isNeg, whole, frac, Holds, Near}
 use Rattle.section.specs.declared.Section.{Section}
 use Rattle.section.specs.Refusal.{line, firstOf, sectionRefusal}
 use Rattle.law.specs.declared.Law.{Law}
@@ -25,6 +25,11 @@ drawnStress t = frac (signed (t .pulls) (t .num)) (t .den)
 
 abbrev pub pointAt : Law → ℤ → Point
 pointAt l e = record { strain = whole e; stress = drawnStress (stressAt l e) }
+
+-- what is asked of a point: the strain itself, and a stress within one millionth of a kPa of the exact fraction, equal to it where that is
+-- whole, with its sign, and zero only as plus zero
+abbrev pub PointNear : Law → ℤ → Point → Type 0
+PointNear l e p = Holds (p .strain) e × Near (p .stress) (signed (stressAt l e .pulls) (stressAt l e .num)) (stressAt l e .den)
 
 abbrev pub inDrawnRange : ℤ → Bool
 inDrawnRange e = leZ (negℤ (pos (edition .drawnTension))) e && leZ e (pos (edition .drawnCompression))
