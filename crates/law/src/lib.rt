@@ -174,7 +174,7 @@ impl Law {
         stretched_at(self, 500 * (t as u64), q as u64)
     }
 
-    // The same of a bar, in tension as in compression; of any law, since its numbers are few.
+    // The same of a bar, in tension as in compression; of any law, since fyd q and 100,000 t fit in any case.
     pub fn bar_size(self, t: u32, q: u16) -> u64
         ensures { λ r. ⌜ r ≡ size (bar self true (500 * t) q) ⌝ }
     {
