@@ -1,6 +1,7 @@
 pub mod Tests
 pub mod Signed
 pub mod Lists
+pub mod Answers
 pub mod Products
 pub mod Floats
 pub mod Nearest

@@ -1,11 +1,10 @@
 -- Tests that hold together, and a test that the checker computes over a whole table. Assumes nothing.
 use Prim.Native.Nat.{ℕ, zero, suc, _<_}
 use mathlib.Core.Path.{_≡_, refl}
-use mathlib.Core.Bool.{Bool, true, false, cond, _&&_, _||_, true≢false, false≢true}
+use mathlib.Core.Bool.{Bool, true, false, _&&_, _||_, true≢false, false≢true}
 use mathlib.Core.Logic.{⊎-elim}
 use native.Mathlib.Nat.{eq-or-lt-of-le}
 use native.Mathlib.Omega.{arith}
-use lib.Dec.{eqb, eqb·suc-zero}
 
 pub both : (a b : Bool) → a && b ≡ true → (a ≡ true) × (b ≡ true)
 both true b e = (refl, e)
@@ -26,8 +25,3 @@ all-below zero p e i h = absurd (omega arith)
 all-below (suc n) p e i h =
     let k = both (allBelow n p) (p n) e in
     ⊎-elim (λ j. rw j (k .1)) (λ j. all-below n p (k .0) i j) (eq-or-lt-of-le {n = i} {m = n} (omega arith))
-
--- an answer that bears the number it is chosen by bears it either way
-pub bears : {X : Type 0} (f : X → ℕ) (n : ℕ) (good bad : X) → f good ≡ 0 → f bad ≡ n → f (cond (eqb n 0) good bad) ≡ n
-bears f zero good bad g b = g
-bears f (suc n) good bad g b = rw eqb·suc-zero b

@@ -2,13 +2,13 @@
 use Prim.Native.Nat.{ℕ}
 use mathlib.Core.Path.{_≡_, refl}
 use mathlib.Core.List.{List}
-use Rattle.arith.proofs.Tests.{bears}
+use Rattle.arith.proofs.Answers.{bears}
 use Rattle.book.specs.declared.SectionAnswer.{SectionAnswer}
-use Rattle.book.specs.Record.{recordRefusal, sectionIn, sectionAnswer}
+use Rattle.book.specs.Record.{recordRefusal, sectionIn, refused, sectionAnswer}
 
 pub answer-refusal : (r : List ℕ) → sectionAnswer r .refusal ≡ recordRefusal r
 unfolding sectionAnswer
-answer-refusal r = bears (λ (a : SectionAnswer). a .refusal) (recordRefusal r) _ _ refl refl
+answer-refusal r = bears (λ (a : SectionAnswer). a .refusal) (recordRefusal r) _ refused refl refl
 
 pub answer-section : (r : List ℕ) → recordRefusal r ≡ 0 → sectionAnswer r .section ≡ sectionIn r
 unfolding sectionAnswer

@@ -5,6 +5,7 @@ use mathlib.Core.List.{List, [], _∷_}
 use lib.Dec.{ltb, leb, eqb}
 use lib.IntN.{ℤ, pos, _-ℤ_}
 use lib.ListN.{length, getD, replicate}
+use Rattle.arith.specs.Answers.{unlessRefused}
 use Rattle.section.specs.declared.Layer.{Layer}
 use Rattle.section.specs.declared.Section.{Section}
 use Rattle.section.specs.Section.{noLayer}
@@ -70,9 +71,11 @@ noSection = record {
   layers = replicate 8 noLayer;
 }
 
--- the section, or zeros beside the refusal
+abbrev pub answered : Section → SectionAnswer
+answered section = record { refusal = 0; section = section }
+
+abbrev pub refused : ℕ → SectionAnswer
+refused number = record { refusal = number; section = noSection }
+
 unfoldable pub sectionAnswer : List ℕ → SectionAnswer
-sectionAnswer r =
-    cond (eqb (recordRefusal r) 0)
-    (record { refusal = 0; section = sectionIn r })
-    (record { refusal = recordRefusal r; section = noSection })
+sectionAnswer r = unlessRefused (recordRefusal r) (answered (sectionIn r)) refused

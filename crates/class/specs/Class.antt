@@ -2,7 +2,8 @@
 use Prim.Native.Nat.{ℕ, _*_, max}
 use mathlib.Core.Bool.{cond}
 use mathlib.Core.List.{List, [], _∷_}
-use lib.Dec.{ltb, leb, eqb}
+use lib.Dec.{ltb, leb}
+use Rattle.arith.specs.Answers.{unlessRefused}
 use Rattle.class.specs.declared.ClassAnswer.{ClassAnswer}
 
 -- The strength classes of Table 2 of document 001, which reproduces Table L.2 of Annex L, with its steps at 3.5 and 4.5
@@ -54,4 +55,4 @@ refused number = record { refusal = number; step = 0; letter = 0 }
 
 unfoldable pub classAnswer : ℕ → ℕ → ClassAnswer
 classAnswer fr1 fr3 =
-    cond (eqb (classRefusal fr1 fr3) 0) (classed (stepOf fr1) (letterOf (stepOf fr1) fr3)) (refused (classRefusal fr1 fr3))
+    unlessRefused (classRefusal fr1 fr3) (classed (stepOf fr1) (letterOf (stepOf fr1) fr3)) refused

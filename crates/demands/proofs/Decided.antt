@@ -10,14 +10,14 @@ use Rattle.law.proofs.effective_depth.Kinds as EffectiveDepth
 use Rattle.law.proofs.effective_depth.Reads as EffectiveDepthReads
 use Rattle.law.proofs.Law.of.Kinds as LawOf
 use Rattle.law.proofs.Law.of.Reads as LawOfReads
-use Rattle.law.proofs.Law.compressed_size.Kinds as CompressedSize
-use Rattle.law.proofs.Law.compressed_size.Reads as CompressedSizeReads
-use Rattle.law.proofs.Law.stretched_size.Kinds as StretchedSize
-use Rattle.law.proofs.Law.stretched_size.Reads as StretchedSizeReads
+use Rattle.law.proofs.Law.concrete_size.Kinds as ConcreteSize
+use Rattle.law.proofs.Law.concrete_size.Reads as ConcreteSizeReads
 use Rattle.law.proofs.Law.bar_size.Kinds as BarSize
 use Rattle.law.proofs.Law.bar_size.Reads as BarSizeReads
 use Rattle.drawn.proofs.Piece.at.Kinds as PieceAt
 use Rattle.drawn.proofs.Piece.at.Reads as PieceAtReads
+use Rattle.drawn.proofs.Drawn.refused.Kinds as Refused
+use Rattle.drawn.proofs.Drawn.refused.Reads as RefusedReads
 use Rattle.drawn.proofs.draw.Kinds as Draw
 use Rattle.drawn.proofs.draw.Reads as DrawReads
 use Rattle.book.proofs.section_of.Kinds as SectionOf
@@ -45,17 +45,17 @@ effective-depth-decided κs a x y e f p q = p ∙ sym q
 pub law-of-decided : Decided LawOf.ps LawOf.r LawOfReads.Learnt
 law-of-decided κs a x y e f p q = p ∙ sym q
 
-pub compressed-size-decided : Decided CompressedSize.ps CompressedSize.r CompressedSizeReads.Learnt
-compressed-size-decided κs a x y e f p q = p ∙ sym q
-
-pub stretched-size-decided : Decided StretchedSize.ps StretchedSize.r StretchedSizeReads.Learnt
-stretched-size-decided κs a x y e f p q = p ∙ sym q
+pub concrete-size-decided : Decided ConcreteSize.ps ConcreteSize.r ConcreteSizeReads.Learnt
+concrete-size-decided κs a x y e f p q = p ∙ sym q
 
 pub bar-size-decided : Decided BarSize.ps BarSize.r BarSizeReads.Learnt
 bar-size-decided κs a x y e f p q = p ∙ sym q
 
 pub piece-at-decided : Decided PieceAt.ps PieceAt.r PieceAtReads.Learnt
 piece-at-decided κs a x y e f p q = p ∙ sym q
+
+pub refused-decided : Decided Refused.ps Refused.r RefusedReads.Learnt
+refused-decided κs a x y e f p q = p ∙ sym q
 
 pub draw-decided : Decided Draw.ps Draw.r DrawReads.Learnt
 draw-decided κs a x y e f p q = p ∙ sym q

@@ -10,6 +10,7 @@ use Rattle.section.proofs.Accepted.{accepted}
 use Rattle.law.specs.declared.LawAnswer.{LawAnswer}
 use Rattle.law.specs.Law.{lawOf, lawAnswer}
 use Rattle.law.proofs.Ranges.{law-in}
+use Rattle.law.proofs.Sizes.{law-small}
 use Rattle.law.proofs.Answers.{answer-refusal, answer-law}
 use Rattle.drawn.specs.Drawn.{inDrawnRange, drawnRefusal, drawn, refused, drawnAnswer}
 use Rattle.drawn.specs.Pieces.{evaluated, pieceAt}
@@ -34,4 +35,5 @@ module _ (s : Section) (e : ℤ) (a : LawAnswer) (is : a ≡ lawAnswer s) where
   draws h k =
       let z : sectionRefusal s ≡ 0 = sym number ∙ h in
       let l : a .law ≡ lawOf s = ap (λ (x : LawAnswer). x .law) is ∙ answer-law s z in
-      rw (z, k, l, drawn-exactly (lawOf s) (law-in (accepted s z)) e)
+      let n = accepted s z in
+      rw (z, k, l, drawn-exactly (lawOf s) (law-in n .lines) (law-small n) e)

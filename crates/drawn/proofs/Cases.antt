@@ -9,9 +9,9 @@ use lib.IntN.{pos}
 use borrow.Author.Tests.{leb-true, leb-false, le-leb, lt-leb}
 use Rattle.arith.specs.Floats.{whole}
 use Rattle.law.specs.declared.Law.{Law}
-use Rattle.law.specs.Edition.{edition}
-use Rattle.law.specs.Ranges.{LawIn}
+use Rattle.law.specs.Ranges.{Lawful}
 use Rattle.law.specs.Stress.{Stress, flat, ramp, parabola, compressed, stretched}
+use Rattle.law.specs.Sizes.{Small}
 use Rattle.drawn.specs.declared.Piece.{Piece}
 use Rattle.drawn.specs.declared.Piece.the-variants.{Flat, Parabola}
 use Rattle.drawn.specs.Pieces.{down, stretchedPiece, compressedPiece}
@@ -45,7 +45,7 @@ module _ (Q : Piece → Stress → Type 0) where
   split true d a b t u k f g = rw (sym k) (f refl)
   split false d a b t u k f g = rw (sym k) (g refl)
 
-  module _ (l : Law) (n : LawIn l) (p : ℕ) where
+  module _ (l : Law) (p : ℕ) where
     pub compressed-by :
         (p ≤ 2000 → Q (Parabola (whole (pos (l .fcd))) (whole (pos 2000))) (parabola (l .fcd) p 1))
         → Q (Flat (whole (pos (l .fcd)))) (flat false (l .fcd))
@@ -58,23 +58,19 @@ module _ (Q : Piece → Stress → Type 0) where
     over-one e = rw (NatL.mul-one e)
 
     pub stretched-by :
-        ((ea sa eb sb : ℕ) → ea < eb → ea ≤ p → p ≤ eb → eb < 65536 → sa < 65536 → sb < 65536 → Q (down ea sa eb sb) (ramp ea sa eb sb p 1))
+        Lawful l
+        → Small l
+        → ((ea sa eb sb : ℕ) → ea < eb → ea ≤ p → p ≤ eb → eb < 65536 → sa < 65536 → sb < 65536 → Q (down ea sa eb sb) (ramp ea sa eb sb p 1))
         → Q (Flat (whole (pos 0))) (flat true 0)
         → Q (stretchedPiece l p) (stretched l p 1)
-    unfolding stretchedPiece stretched edition
-    stretched-by on none =
-        let s1 : l .s1 < 65536 = omega (arith, n .s1 .1) in
-        let s2 : l .s2 < 65536 = omega (arith, n .s2) in
-        let s3 : l .s3 < 65536 = omega (arith, n .s3) in
-        let e2 : l .e2 < 65536 = omega (arith, n .e2 .1) in
-        let e3 : l .e3 < 65536 = omega (arith, n .e3) in
-        let o = n .lines in
+    unfolding stretchedPiece stretched
+    stretched-by o n on none =
         split (leb p (l .e1)) (leb p (l .e1 * 1)) _ _ _ _ (over-one (l .e1))
-        (λ h. on 0 0 (l .e1) (l .s1) (o .first) (omega arith) (leb-true p (l .e1) h) (omega (arith, o .second)) (omega arith) s1)
+        (λ h. on 0 0 (l .e1) (l .s1) (o .first) (omega arith) (leb-true p (l .e1) h) (n .e1) (omega arith) (n .s1))
         (λ h1.
         split (leb p (l .e2)) (leb p (l .e2 * 1)) _ _ _ _ (over-one (l .e2))
-        (λ h. on (l .e1) (l .s1) (l .e2) (l .s2) (o .second) (omega (arith, leb-false p (l .e1) h1)) (leb-true p (l .e2) h) e2 s1 s2)
+        (λ h. on (l .e1) (l .s1) (l .e2) (l .s2) (o .second) (omega (arith, leb-false p (l .e1) h1)) (leb-true p (l .e2) h) (n .e2) (n .s1) (n .s2))
         (λ h2.
         split (leb p (l .e3)) (leb p (l .e3 * 1)) _ _ _ _ (over-one (l .e3))
-        (λ h. on (l .e2) (l .s2) (l .e3) (l .s3) (o .third) (omega (arith, leb-false p (l .e2) h2)) (leb-true p (l .e3) h) e3 s2 s3)
+        (λ h. on (l .e2) (l .s2) (l .e3) (l .s3) (o .third) (omega (arith, leb-false p (l .e2) h2)) (leb-true p (l .e3) h) (n .e3) (n .s2) (n .s3))
         (λ h. none)))

@@ -8,9 +8,11 @@ use lib.IntN.{ℤ, pos, negsuc, negℤ}
 use lib.Ieee.{Float, binary64, add, sub, mul, div}
 use Rattle.arith.specs.Floats.{whole, frac}
 use Rattle.arith.proofs.Floats.{whole-is, Loose, add-loose, sub-whole, mul-nonneg, mul-loose, div-whole}
+use Rattle.arith.proofs.Products.{narrow-product}
 use Rattle.law.specs.declared.Law.{Law}
-use Rattle.law.specs.Ranges.{LawIn}
+use Rattle.law.specs.Ranges.{Lawful}
 use Rattle.law.specs.Stress.{Stress, flat, ramp, parabola, compressed, stretched}
+use Rattle.law.specs.Sizes.{Small}
 use Rattle.drawn.specs.declared.Piece.the-variants.{Flat, Parabola}
 use Rattle.drawn.specs.Drawn.{stressAt, drawnStress}
 use Rattle.drawn.specs.Pieces.{evaluated, below, down, pieceAt}
@@ -23,13 +25,10 @@ apart : (a b : ℕ) → a ≤ b → b < 65536 → sub binary64 (below a) (below 
 apart a b h k =
     sub-whole (negℤ (pos a)) (negℤ (pos b)) (omega (arith, size-of a)) (omega (arith, size-of b)) ∙ ap whole (between a b h)
 
-product : (s v : ℕ) → s < 65536 → v < 65536 → s * v < 4294967296
-product s v h k = omega (arith, NatL.mul-le-mul {n₁ = s} {m₁ = v} {n₂ = 65535} {m₂ = 65535} (omega arith) (omega arith))
-
 -- a sum that is whole so far, and one more product below zero
 further : (a s v : ℕ) → a < 4294967296 → s < 65536 → v < 65536 → add binary64 (below a) (mul binary64 (below s) (whole (pos v))) ≡ below (a + s * v)
 further a s v h k j =
-    let q = product s v k j in
+    let q = narrow-product s v k j in
     let loose = subst (λ (w : ℤ). Loose (mul binary64 (below s) (whole (pos v))) w) (times s v) (mul-loose (negℤ (pos s)) (pos v) (omega (arith, size-of s)) (omega arith)) in
     add-loose (negℤ (pos a)) (negℤ (pos (s * v))) _ (omega (arith, size-of a)) (omega (arith, size-of (s * v))) loose ∙ ap whole (plus a (s * v))
 
@@ -40,8 +39,8 @@ module _ (ea sa eb sb p : ℕ) (long : ea < eb) (from : ea ≤ p) (to : p ≤ eb
       let u = eb - p in
       let v = p - ea in
       let n = 0 + sb * v + sa * u in
-      let pb = product sb v B (omega arith) in
-      let pa = product sa u A (omega arith) in
+      let pb = narrow-product sb v B (omega arith) in
+      let pa = narrow-product sa u A (omega arith) in
       let num : n ≡ sa * (eb * 1 - p) + sb * (p - ea * 1) = rw (NatL.mul-one eb, NatL.mul-one ea) (omega arith) in
       (λ i.
       div binary64
@@ -57,7 +56,7 @@ parabola-exact : (fcd p : ℕ) → fcd < 65536 → p ≤ 2000 → evaluated (Par
 unfolding evaluated
 parabola-exact fcd p h k =
     let b = 4000 - p in
-    let small = product fcd p h (omega arith) in
+    let small = narrow-product fcd p h (omega arith) in
     let arch = NatL.mul-le-mul {n₁ = fcd * p} {m₁ = b} {n₂ = 4294967295} {m₂ = 4000} (omega arith) (omega arith) in
     let rest : sub binary64 (mul binary64 (whole (pos 2)) (whole (pos 2000))) (whole (pos p)) ≡ whole (pos b) =
     ap (λ (x : Float). sub binary64 x (whole (pos p))) (mul-nonneg 2 2000 (omega arith) (omega arith))
@@ -72,9 +71,9 @@ unfolding evaluated
 level-exact s e = whole-is (pos s)
 
 -- ---- the law
-pub drawn-exactly : (l : Law) → LawIn l → (e : ℤ) → evaluated (pieceAt l e) (whole e) ≡ drawnStress (stressAt l e)
+pub drawn-exactly : (l : Law) → Lawful l → Small l → (e : ℤ) → evaluated (pieceAt l e) (whole e) ≡ drawnStress (stressAt l e)
 unfolding pieceAt
-drawn-exactly l n (pos p) =
-    compressed-by (λ a t. evaluated a (whole (pos p)) ≡ drawnStress t) l n p (parabola-exact (l .fcd) p (omega (arith, n .fcd .1))) (level-exact (l .fcd) (whole (pos p)))
-drawn-exactly l n (negsuc k) =
-    stretched-by (λ a t. evaluated a (below (suc k)) ≡ drawnStress t) l n (suc k) (λ ea sa eb sb. ramp-exact ea sa eb sb (suc k)) (level-exact 0 (below (suc k)))
+drawn-exactly l o n (pos p) =
+    compressed-by (λ a t. evaluated a (whole (pos p)) ≡ drawnStress t) l p (parabola-exact (l .fcd) p (n .fcd)) (level-exact (l .fcd) (whole (pos p)))
+drawn-exactly l o n (negsuc k) =
+    stretched-by (λ a t. evaluated a (below (suc k)) ≡ drawnStress t) l (suc k) o n (λ ea sa eb sb. ramp-exact ea sa eb sb (suc k)) (level-exact 0 (below (suc k)))

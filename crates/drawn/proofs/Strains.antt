@@ -17,10 +17,10 @@ use Rattle.law.specs.Edition.{edition}
 use Rattle.drawn.specs.Drawn.{inDrawnRange}
 
 -- ---- its side and its size, as the machine finds them
-module _ (z : ℤ) (fits : SFits w32 z) (small : natAbs z ≤ 10000) where
-  pub size-fits : SFits w32 (pos (natAbs z))
-  size-fits = record { sfits = omega arith }
+pub size-fits : (z : ℤ) → natAbs z ≤ 10000 → SFits w32 (pos (natAbs z))
+size-fits z h = record { sfits = omega arith }
 
+module _ (z : ℤ) (fits : SFits w32 z) where
   pub turned : ltZ (toZ w32 (ofZ w32 z)) (pos 0) ≡ true → (pos 0 -ℤ toZ w32 (ofZ w32 z) ≡ pos (natAbs z)) × (isNeg z ≡ true)
   turned e = rw (read32 fits) (turn z (rw (read32 fits) at e))
     where

@@ -14,9 +14,11 @@ use Rattle.section.proofs.Lines.{passed, none-of}
 use Rattle.section.proofs.Accepted.{accepted}
 use Rattle.law.specs.declared.Law.{Law}
 use Rattle.law.specs.Law.{lawOf}
-use Rattle.law.specs.Ranges.{LawIn}
+use Rattle.law.specs.Ranges.{Lawful}
 use Rattle.law.specs.Stress.{Stress, signed, flat, ramp, parabola}
+use Rattle.law.specs.Sizes.{Small}
 use Rattle.law.proofs.Ranges.{law-in}
+use Rattle.law.proofs.Sizes.{law-small}
 use Rattle.drawn.specs.Drawn.{stressAt, drawnStress, PointNear, inDrawnRange, drawnRefusal, drawnAnswer}
 use Rattle.drawn.proofs.Cases.{compressed-by, stretched-by}
 use Rattle.drawn.proofs.Ends.{size-of}
@@ -45,22 +47,23 @@ module _ (ea sa eb sb p : ℕ) (long : ea < eb) (from : ea ≤ p) (to : p ≤ eb
       let m : eb * 1 ≡ eb = NatL.mul-one eb in
       record { some = omega arith; short = omega arith; low = rw (k, m) (omega arith) }
 
-parabola-fine : (fcd p : ℕ) → fcd ≤ 28333 → p ≤ 2000 → Fine (parabola fcd p 1)
+parabola-fine : (fcd p : ℕ) → fcd < 65536 → p ≤ 2000 → Fine (parabola fcd p 1)
 parabola-fine fcd p h k =
-    let a = NatL.mul-le-mul {n₁ = fcd} {m₁ = p} {n₂ = 28333} {m₂ = 2000} h k in
-    let b = NatL.mul-le-mul {n₁ = fcd * p} {m₁ = 4000 - p} {n₂ = 56666000} {m₂ = 4000} (omega arith) (omega arith) in
+    let a = NatL.mul-le-mul {n₁ = fcd} {m₁ = p} {n₂ = 65535} {m₂ = 2000} (omega arith) k in
+    let b = NatL.mul-le-mul {n₁ = fcd * p} {m₁ = 4000 - p} {n₂ = 131070000} {m₂ = 4000} (omega arith) (omega arith) in
     record { some = omega arith; short = omega arith; low = omega arith }
 
 level-fine : (pulls : Bool) (s : ℕ) → s < 65536 → Fine (flat pulls s)
 level-fine pulls s h = record { some = omega arith; short = omega arith; low = omega arith }
 
-fine : (l : Law) → LawIn l → (e : ℤ) → Fine (stressAt l e)
-fine l n (pos p) = compressed-by (λ a t. Fine t) l n p (parabola-fine (l .fcd) p (n .fcd .1)) (level-fine false (l .fcd) (omega (arith, n .fcd .1)))
-fine l n (negsuc k) = stretched-by (λ a t. Fine t) l n (suc k) (λ ea sa eb sb. ramp-fine ea sa eb sb (suc k)) (level-fine true 0 (omega arith))
+fine : (l : Law) → Lawful l → Small l → (e : ℤ) → Fine (stressAt l e)
+fine l o n (pos p) = compressed-by (λ a t. Fine t) l p (parabola-fine (l .fcd) p (n .fcd)) (level-fine false (l .fcd) (n .fcd))
+fine l o n (negsuc k) = stretched-by (λ a t. Fine t) l (suc k) o n (λ ea sa eb sb. ramp-fine ea sa eb sb (suc k)) (level-fine true 0 (omega arith))
 
 pub point-near : (s : Section) (e : ℤ) → drawnRefusal s e ≡ 0 → PointNear (lawOf s) e (drawnAnswer s e .point)
 unfolding drawnAnswer drawnRefusal
 point-near s e h =
     let p = none-of (sectionRefusal s) (line (inDrawnRange e) 18 0) h in
     let q = passed (inDrawnRange e) 17 0 (p .1) .0 in
-    rw (p .0, q) (holds e (omega (arith, drawn-size e q)), near (stressAt (lawOf s) e) (fine (lawOf s) (law-in (accepted s (p .0))) e))
+    let a = accepted s (p .0) in
+    rw (p .0, q) (holds e (omega (arith, drawn-size e q)), near (stressAt (lawOf s) e) (fine (lawOf s) (law-in a .lines) (law-small a) e))

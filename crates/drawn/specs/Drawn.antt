@@ -1,10 +1,10 @@
 -- Document 01, 'Stress at a strain': a drawn point, one strain with its stress, compression positive.
 use Prim.Native.Nat.{ℕ}
-use mathlib.Core.Bool.{Bool, cond, _&&_}
-use lib.Dec.{eqb}
+use mathlib.Core.Bool.{Bool, _&&_}
 use lib.IntN.{ℤ, pos, negℤ, natAbs}
 use lib.Signed.{leZ}
 use lib.Ieee.{Float}
+use Rattle.arith.specs.Answers.{unlessRefused}
 use Rattle.arith.specs.Floats.{isNeg, whole, frac, Holds, Near}
 use Rattle.section.specs.declared.Section.{Section}
 use Rattle.section.specs.Refusal.{line, firstOf, sectionRefusal}
@@ -46,5 +46,4 @@ abbrev pub refused : ℕ → Drawn
 refused number = record { refusal = number; point = record { strain = whole (pos 0); stress = whole (pos 0) } }
 
 unfoldable pub drawnAnswer : Section → ℤ → Drawn
-drawnAnswer s e =
-    cond (eqb (drawnRefusal s e) 0) (drawn (pointAt (lawOf s) e)) (refused (drawnRefusal s e))
+drawnAnswer s e = unlessRefused (drawnRefusal s e) (drawn (pointAt (lawOf s) e)) refused

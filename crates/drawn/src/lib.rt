@@ -101,15 +101,18 @@ fn drawable(strain: i32) -> bool
     (-10000 <= strain) & (strain <= 3500)
 }
 
-fn refused(refusal: u32) -> Drawn
-    ensures { λ r. ⌜ r ≡ refused refusal ⌝ }
-{
-    Drawn {
-        refusal: refusal,
-        point: Point {
-            strain: 0.0,
-            stress: 0.0,
-        },
+impl Drawn {
+    // A refusal's number beside a point of plus zeros.
+    pub fn refused(number: u32) -> Drawn
+        ensures { λ r. ⌜ r ≡ refused number ⌝ }
+    {
+        Drawn {
+            refusal: number,
+            point: Point {
+                strain: 0.0,
+                stress: 0.0,
+            },
+        }
     }
 }
 
@@ -119,10 +122,10 @@ pub fn draw(section: Section, strain: i32) -> Drawn
 {
     let answer = Law::of(section);
     if answer.refusal != 0 {
-        return refused(answer.refusal);
+        return Drawn::refused(answer.refusal);
     }
     if !drawable(strain) {
-        return refused(18);
+        return Drawn::refused(18);
     }
     let e = strain as f64;
     Drawn {

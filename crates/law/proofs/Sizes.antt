@@ -1,12 +1,10 @@
 -- The rounded sizes as the code computes them, without the factors that numerator and denominator share. Assumes nothing.
 use Prim.Native.Nat.{ℕ, zero, suc, _+_, _*_, _-_, _/_, _≤_, _<_}
 use mathlib.Core.Path.{_≡_, sym, ap, _∙_}
-use mathlib.Core.Bool.{Bool, true, false, not, _&&_, _||_, true≢false}
+use mathlib.Core.Bool.{Bool, true, false, not, _||_, true≢false}
 use native.Mathlib.Nat as NatL
 use native.Mathlib.Omega.{arith}
 use lib.Dec.{ltb, eqb}
-use mir.Syntax.{w64}
-use mir.Val.{Fits}
 use borrow.Author.Tests.{ltb-true, lt-ltb, le-leb, lt-leb, eqb-true, eqb-false}
 use Rattle.arith.proofs.Tests.{both}
 use Rattle.section.specs.declared.Section.{Section}
@@ -14,22 +12,19 @@ use Rattle.section.specs.Accepted.{Accepted}
 use Rattle.law.specs.declared.Law.{Law}
 use Rattle.law.specs.Edition.{edition}
 use Rattle.law.specs.Law.{lawOf}
-use Rattle.law.specs.Stress.{Stress, size, ramp, compressed, stretched, bar}
+use Rattle.law.specs.Stress.{Stress, size, ramp, compressed, stretched, concrete, bar}
 use Rattle.law.specs.Sizes.{Small, small, sizeIn}
 use Rattle.law.proofs.Ranges.{law-in}
 
 -- ---- a law whose numbers are small
-abbrev below : ℕ → Bool
-below n = ltb n 65536
-
 pub smalls : (l : Law) → small l ≡ true → Small l
 smalls l e =
-    let p6 = both (below (l .fcd) && below (l .s1) && below (l .s2) && below (l .s3) && below (l .e1) && below (l .e2)) (below (l .e3)) e in
-    let p5 = both (below (l .fcd) && below (l .s1) && below (l .s2) && below (l .s3) && below (l .e1)) (below (l .e2)) (p6 .0) in
-    let p4 = both (below (l .fcd) && below (l .s1) && below (l .s2) && below (l .s3)) (below (l .e1)) (p5 .0) in
-    let p3 = both (below (l .fcd) && below (l .s1) && below (l .s2)) (below (l .s3)) (p4 .0) in
-    let p2 = both (below (l .fcd) && below (l .s1)) (below (l .s2)) (p3 .0) in
-    let p1 = both (below (l .fcd)) (below (l .s1)) (p2 .0) in
+    let p6 = both _ (ltb (l .e3) 65536) e in
+    let p5 = both _ (ltb (l .e2) 65536) (p6 .0) in
+    let p4 = both _ (ltb (l .e1) 65536) (p5 .0) in
+    let p3 = both _ (ltb (l .s3) 65536) (p4 .0) in
+    let p2 = both _ (ltb (l .s2) 65536) (p3 .0) in
+    let p1 = both (ltb (l .fcd) 65536) (ltb (l .s1) 65536) (p2 .0) in
     record {
       fcd = ltb-true _ _ (p1 .0);
       s1 = ltb-true _ _ (p1 .1);
@@ -54,10 +49,6 @@ pub sized : (l : Law) (t : Stress) (n : ℕ) → small l ≡ true → n ≡ size
 unfolding sizeIn
 sized l t n k e = rw k e
 
--- ---- products that 64 bits hold
-pub product-fits : (a b : ℕ) → a < 65536 → b < 4294967296 → Fits w64 (a * b)
-product-fits a b h k = omega (arith, NatL.mul-le-mul {n₁ = a} {m₁ = b} {n₂ = 65535} {m₂ = 4294967295} (omega arith) (omega arith))
-
 -- ---- compression
 shared : (a t u : ℕ) → a * (500 * t) * (500 * u) ≡ 250000 * (a * (t * u))
 shared a t u =
@@ -67,7 +58,7 @@ shared a t u =
     ∙ omega arith
 
 module _ (l : Law) (t q : ℕ) where
-  pub compressed-none : t ≡ 0 → size (compressed l (500 * t) q) ≡ 0
+  compressed-none : t ≡ 0 → size (compressed l (500 * t) q) ≡ 0
   unfolding size compressed
   compressed-none e = rw (e, le-leb 0 (2000 * q) (omega arith), NatL.mul-zero (l .fcd), NatL.zero-mul (4000 * q - 0)) (NatL.zero-div (4000000 * q * q))
 
@@ -83,19 +74,9 @@ module _ (l : Law) (t q : ℕ) where
       rw (le-leb (500 * t) (2000 * q) (omega arith), less, shared (l .fcd) t (8 * q - t), den)
       (sym (NatL.mul-div-mul-left {m = 250000} (l .fcd * (t * (8 * q - t))) (16 * q * q) (omega arith)))
 
--- the two factors of the parabola, and its denominator
-pub arch : (t q : ℕ) → t ≤ 4 * q → q < 65536 → t * (8 * q - t) ≤ 262140 * 524280
-arch t q h k = NatL.mul-le-mul {n₁ = t} {m₁ = 8 * q - t} {n₂ = 262140} {m₂ = 524280} (omega arith) (omega arith)
-
-pub arch-fits : (f t q : ℕ) → f < 65536 → t ≤ 4 * q → q < 65536 → Fits w64 (f * (t * (8 * q - t)))
-arch-fits f t q h k j = omega (arith, NatL.mul-le-mul {n₁ = f} {n₂ = 65535} (omega arith) (arch t q k j))
-
-pub square-fits : (q : ℕ) → q < 65536 → Fits w64 (16 * q * q)
-square-fits q h = omega (arith, NatL.mul-le-mul {n₁ = 16 * q} {m₁ = q} {n₂ = 1048560} {m₂ = 65535} (omega arith) (omega arith))
-
 -- ---- tension
 module _ (l : Law) (p q : ℕ) where
-  pub stretched-none : p ≡ 0 → size (stretched l p q) ≡ 0
+  stretched-none : p ≡ 0 → size (stretched l p q) ≡ 0
   unfolding size stretched
   stretched-none e =
       let nought : l .s1 * (0 - 0 * q) ≡ 0 = ap (λ m. l .s1 * (0 - m)) (NatL.zero-mul q) ∙ NatL.mul-zero (l .s1) in
@@ -117,7 +98,12 @@ module _ (l : Law) (p q : ℕ) where
   unfolding stretched size
   stretched-beyond a b c = rw (lt-leb p (l .e1 * q) a, lt-leb p (l .e2 * q) b, lt-leb p (l .e3 * q) c)
 
--- a line that a strain is on has a length
+-- ---- either
+pub concrete-none : (l : Law) (pulls : Bool) (t q : ℕ) → t ≡ 0 → size (concrete l pulls (500 * t) q) ≡ 0
+concrete-none l true t q e = stretched-none l (500 * t) q (omega arith)
+concrete-none l false t q e = compressed-none l t q e
+
+-- ---- a line that a strain is on has a length
 pub length-of : (ea eb p q : ℕ) → ea * q < p → p ≤ eb * q → (ea < eb) × ((eb - ea) * q + ea * q ≡ eb * q)
 length-of ea eb p q h k =
     let l : ea < eb = NatL.lt-of-mul-lt-mul-right q (omega arith) in
@@ -143,16 +129,29 @@ divides a b zero h k = absurd (omega arith)
 divides a b (suc q) h k = omega arith
 
 -- ---- every accepted section's law is small
-pub small-law : {s : Section} → Accepted s → small (lawOf s) ≡ true
+pub law-small : {s : Section} → Accepted s → Small (lawOf s)
 unfolding edition
-small-law {s} a =
+law-small a =
     let n = law-in a in
+    record {
+      fcd = omega (arith, n .fcd .1);
+      s1 = omega (arith, n .s1 .1);
+      s2 = omega (arith, n .s2);
+      s3 = omega (arith, n .s3);
+      e1 = omega (arith, n .e1 .1);
+      e2 = omega (arith, n .e2 .1);
+      e3 = omega (arith, n .e3);
+    }
+
+pub small-law : {s : Section} → Accepted s → small (lawOf s) ≡ true
+small-law {s} a =
+    let n = law-small a in
     rw (
-      lt-ltb (lawOf s .fcd) 65536 (omega (arith, n .fcd .1)),
-      lt-ltb (lawOf s .s1) 65536 (omega (arith, n .s1 .1)),
-      lt-ltb (lawOf s .s2) 65536 (omega (arith, n .s2)),
-      lt-ltb (lawOf s .s3) 65536 (omega (arith, n .s3)),
-      lt-ltb (lawOf s .e1) 65536 (omega (arith, n .e1 .1)),
-      lt-ltb (lawOf s .e2) 65536 (omega (arith, n .e2 .1)),
-      lt-ltb (lawOf s .e3) 65536 (omega (arith, n .e3)),
+      lt-ltb (lawOf s .fcd) 65536 (n .fcd),
+      lt-ltb (lawOf s .s1) 65536 (n .s1),
+      lt-ltb (lawOf s .s2) 65536 (n .s2),
+      lt-ltb (lawOf s .s3) 65536 (n .s3),
+      lt-ltb (lawOf s .e1) 65536 (n .e1),
+      lt-ltb (lawOf s .e2) 65536 (n .e2),
+      lt-ltb (lawOf s .e3) 65536 (n .e3),
     )

@@ -4,6 +4,7 @@ use mathlib.Core.Bool.{cond}
 use mathlib.Core.List.{[], _∷_}
 use lib.Dec.{eqb}
 use lib.ListN.{getD}
+use Rattle.arith.specs.Answers.{unlessRefused}
 use Rattle.section.specs.declared.Section.{Section}
 use Rattle.section.specs.Section.{layerAt}
 use Rattle.section.specs.Refusal.{sectionRefusal}
@@ -62,4 +63,4 @@ abbrev pub refused : ℕ → LawAnswer
 refused number = record { refusal = number; law = record { fcd = 0; s1 = 0; e1 = 0; e2 = 0; s2 = 0; s3 = 0; e3 = 0; fyd = 0 } }
 
 unfoldable pub lawAnswer : Section → LawAnswer
-lawAnswer s = cond (eqb (sectionRefusal s) 0) (answered (lawOf s)) (refused (sectionRefusal s))
+lawAnswer s = unlessRefused (sectionRefusal s) (answered (lawOf s)) refused

@@ -4,7 +4,7 @@ ghost use mathlib.Core.Bool.{true};
 ghost use Prim.Native.Nat.{_*_, _-_, _≤_, _<_};
 ghost use Rattle.section.specs.Accepted.{Accepted};
 ghost use Rattle.law.specs.Law.{limitDepth, effectiveDepth, lawOf, lawAnswer};
-ghost use Rattle.law.specs.Stress.{size, ramp, compressed, stretched, bar};
+ghost use Rattle.law.specs.Stress.{size, ramp, compressed, stretched, concrete, bar};
 ghost use Rattle.law.specs.Sizes.{small, Small, sizeIn};
 use section::Section;
 
@@ -153,25 +153,19 @@ impl Law {
             & (self.e3 < 65536)
     }
 
-    // The rounded size of the concrete's stress at a compression strain of 500 t / q; 0 of a law with numbers that no section has. Without
-    // strain there is no stress, whatever q is.
-    pub fn compressed_size(self, t: u32, q: u16) -> u64
-        ensures { λ r. ⌜ r ≡ sizeIn self (compressed self (500 * t) q) ⌝ }
+    // The rounded size of the concrete's stress at a strain of 500 t / q, tension where it pulls; 0 of a law with numbers that no section has.
+    // Without strain there is no stress, whatever q is.
+    pub fn concrete_size(self, pulls: bool, t: u32, q: u16) -> u64
+        ensures { λ r. ⌜ r ≡ sizeIn self (concrete self pulls (500 * t) q) ⌝ }
     {
         if !self.small() | (t == 0) {
             return 0;
         }
-        compressed_at(self, t as u64, q as u64)
-    }
-
-    // The same at a tension strain.
-    pub fn stretched_size(self, t: u32, q: u16) -> u64
-        ensures { λ r. ⌜ r ≡ sizeIn self (stretched self (500 * t) q) ⌝ }
-    {
-        if !self.small() | (t == 0) {
-            return 0;
+        if pulls {
+            stretched_at(self, 500 * (t as u64), q as u64)
+        } else {
+            compressed_at(self, t as u64, q as u64)
         }
-        stretched_at(self, 500 * (t as u64), q as u64)
     }
 
     // The same of a bar, in tension as in compression; of any law, since fyd q and 100,000 t fit in any case.

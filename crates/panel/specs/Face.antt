@@ -1,16 +1,15 @@
 -- What the C face answers of a record that is handed over as bytes: 6 first, then what is answered of its section.
 use Prim.Native.Nat.{ℕ}
-use mathlib.Core.Bool.{cond}
 use mathlib.Core.List.{List}
-use lib.Dec.{eqb}
 use lib.IntN.{ℤ}
+use Rattle.arith.specs.Answers.{unlessRefused}
 use Rattle.section.specs.declared.Section.{Section}
 use Rattle.drawn.specs.declared.Drawn.{Drawn}
 use Rattle.drawn.specs.Drawn.{refused, drawnAnswer}
 use Rattle.book.specs.Record.{recordRefusal, sectionIn}
 
 abbrev pub ofRecord : {X : Type 0} → List ℕ → (Section → X) → (ℕ → X) → X
-ofRecord r answered refused = cond (eqb (recordRefusal r) 0) (answered (sectionIn r)) (refused (recordRefusal r))
+ofRecord r answered refused = unlessRefused (recordRefusal r) (answered (sectionIn r)) refused
 
 unfoldable pub drawnOf : List ℕ → ℤ → Drawn
 drawnOf r e = ofRecord r (λ s. drawnAnswer s e) refused

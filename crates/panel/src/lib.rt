@@ -4,7 +4,6 @@ ghost use Rattle.class.specs.Class.{classAnswer};
 ghost use Rattle.panel.specs.Face.{drawnOf};
 use class::ClassAnswer;
 use drawn::Drawn;
-use drawn::Point;
 
 // The class of a fibre concrete; or 17 and zeros.
 #[no_mangle]
@@ -21,13 +20,7 @@ pub extern "C" fn fw_draw(part: &[u8], strain: i32) -> Drawn
 {
     let answer = book::section_of(part);
     if answer.refusal != 0 {
-        return Drawn {
-            refusal: answer.refusal,
-            point: Point {
-                strain: 0.0,
-                stress: 0.0,
-            },
-        };
+        return Drawn::refused(answer.refusal);
     }
     drawn::draw(answer.section, strain)
 }

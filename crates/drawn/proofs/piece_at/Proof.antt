@@ -14,16 +14,16 @@ use Rattle.drawn.proofs.piece_at.Statement.{statement}
 use Rattle.drawn.proofs.piece_at.Tie as tie
 
 below : (c : tie.Then1) → (pos 0 -ℤ toZ w32 (ofZ w32 (c .before .args .strain)) ≡ pos (natAbs (c .before .args .strain))) × (isNeg (c .before .args .strain) ≡ true)
-below c = turned (c .before .args .strain) (c .before .fits .strain) (c .before .pre) (c .if1 .taken)
+below c = turned (c .before .args .strain) (c .before .fits .strain) (c .if1 .taken)
 
 above : (c : tie.Else1) → (toZ w32 (ofZ w32 (c .before .args .strain)) ≡ pos (natAbs (c .before .args .strain))) × (isNeg (c .before .args .strain) ≡ false)
-above c = kept (c .before .args .strain) (c .before .fits .strain) (c .before .pre) (c .if1 .left)
+above c = kept (c .before .args .strain) (c .before .fits .strain) (c .if1 .left)
 
 sub-stretched-piece : tie.Need-sub-stretched-piece
-sub-stretched-piece c = rw (below c .0) (size-fits (c .before .args .strain) (c .before .fits .strain) (c .before .pre))
+sub-stretched-piece c = rw (below c .0) (size-fits (c .before .args .strain) (c .before .pre))
 
 cast-stretched-piece : tie.Need-cast-stretched-piece
-cast-stretched-piece c = rw (below c .0, read32 (size-fits (c .before .args .strain) (c .before .fits .strain) (c .before .pre))) (tt, omega arith)
+cast-stretched-piece c = rw (below c .0, read32 (size-fits (c .before .args .strain) (c .before .pre))) (tt, omega arith)
 
 returns : tie.Need-returns
 unfolding pieceAt
@@ -31,7 +31,7 @@ returns c =
     rw (
       c .stretched-piece .ensures,
       below (c .before) .0,
-      read32 (size-fits (c .before .before .args .strain) (c .before .before .fits .strain) (c .before .before .pre)),
+      read32 (size-fits (c .before .before .args .strain) (c .before .before .pre)),
       below (c .before) .1,
     )
 

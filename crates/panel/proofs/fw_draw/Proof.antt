@@ -1,6 +1,5 @@
 -- `fw_draw`: the record's refusal, then the section's answer. Assumes nothing.
 use mathlib.Core.Path.{ap, _∙_}
-use lib.Ieee.{ofBits, ofInt}
 use borrow.Author.Needs.{needs}
 use Rattle.arith.proofs.Signed.{read32}
 use Rattle.drawn.specs.Drawn.{refused, drawnAnswer}
@@ -10,8 +9,10 @@ use Rattle.panel.proofs.fw_draw.Statement.{statement}
 use Rattle.panel.proofs.fw_draw.Tie as tie
 
 returns : tie.Need-returns
-unfolding drawnOf ofBits ofInt
-returns c = refuses-record _ (λ s. drawnAnswer s (c .before .before .before .before .args .strain)) refused _ (c .before .before .section-of .ensures) (c .if1 .taken)
+unfolding drawnOf
+returns c =
+    c .refused .ensures
+    ∙ refuses-record _ (λ s. drawnAnswer s (c .before .before .before .before .before .args .strain)) refused _ (c .before .before .before .section-of .ensures) (c .before .if1 .taken)
 
 returns-2 : tie.Need-returns-2
 unfolding drawnOf
@@ -21,4 +22,4 @@ returns-2 c =
     ∙ answers-record _ (λ s. drawnAnswer s (c .before .before .before .before .before .args .strain)) refused _ (c .before .before .before .section-of .ensures) (c .before .if1 .left)
 
 pub fw-draw-spec : {M : Type 1} → statement M
-fw-draw-spec = tie.close (tie.spec (λ c κs. search needs) returns (λ c κs. search needs) returns-2)
+fw-draw-spec = tie.close (tie.spec (λ c κs. search needs) (λ c κs. search needs) returns (λ c κs. search needs) returns-2)

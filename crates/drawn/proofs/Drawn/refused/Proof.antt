@@ -1,8 +1,8 @@
--- `refused`: a literal 0.0 is plus zero. Assumes nothing.
+-- `Drawn::refused`: a literal 0.0 is plus zero. Assumes nothing.
 use mathlib.Core.Path.{refl}
 use lib.Ieee.{ofBits, ofInt}
-use Rattle.drawn.proofs.refused.Statement.{statement}
-use Rattle.drawn.proofs.refused.Tie as tie
+use Rattle.drawn.proofs.Drawn.refused.Statement.{statement}
+use Rattle.drawn.proofs.Drawn.refused.Tie as tie
 
 returns : tie.Need-returns
 unfolding ofBits ofInt
