@@ -1,5 +1,6 @@
 pub mod Tests
 pub mod Signed
+pub mod Sums
 pub mod Lists
 pub mod Answers
 pub mod Products

@@ -1,4 +1,5 @@
 pub mod Ranges
 pub mod Answers
 pub mod Sizes
+pub mod Bounds
 pub mod Continuous
