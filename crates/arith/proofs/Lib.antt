@@ -1,6 +1,7 @@
 pub mod Tests
 pub mod Signed
 pub mod Sums
+pub mod Rounding
 pub mod Lists
 pub mod Answers
 pub mod Products

@@ -8,7 +8,8 @@ use mathlib.Core.Logic.{_⊎_, inl, inr, ⊎-elim}
 use native.Mathlib.Nat as NatL
 use native.Mathlib.Omega.{arith}
 use lib.Dec.{T, ltb, leb, ltb→lt, nltb→le, lt→ltb, le→leb, leb→le, nleb→lt, leb·suc-suc}
-use lib.IntN.{ℤ, pos, negsuc, _+ℤ_, _-ℤ_, _*ℤ_, negℤ, subℕ, +ℤ-idl, natAbs}
+use lib.IntN.{ℤ, pos, negsuc, _+ℤ_, _-ℤ_, _*ℤ_, negℤ, subℕ, +ℤ-idl, *ℤ-zero, *ℤ-negsuc, negℤ-negℤ, natAbs}
+use lib.Ieee.Bits.{is-true}
 use lib.Signed.{nonNeg, ltZ, leZ, _≤ℤ_, _<ℤ_, ltZ-no}
 use mir.Syntax.{w32, w64}
 use mir.Val.{SFits, toZ, ofZ}
@@ -87,6 +88,33 @@ parts-mul (pos a) (negsuc b) = omega (arith, NatL.mul-zero a, NatL.zero-mul (suc
 parts-mul (negsuc a) (pos b) = omega (arith, NatL.mul-zero (suc a), NatL.zero-mul b, up-neg (pos (suc a * b)), dn-neg (pos (suc a * b)))
 parts-mul (negsuc a) (negsuc b) = omega (arith, NatL.mul-zero (suc a), NatL.zero-mul (suc b))
 
+pub mul-neg : (x y : ℤ) → x *ℤ negℤ y ≡ negℤ (x *ℤ y)
+mul-neg x (pos zero) = rw (*ℤ-zero x)
+mul-neg x (pos (suc n)) = *ℤ-negsuc x n
+mul-neg x (negsuc n) = rw (*ℤ-negsuc x n) (sym (negℤ-negℤ (x *ℤ pos (suc n))))
+
+pub mul-add : (x y z : ℤ) → x *ℤ (y +ℤ z) ≡ (x *ℤ y) +ℤ (x *ℤ z)
+mul-add x y z = same _ _ (omega (
+  arith,
+  parts-mul x (y +ℤ z),
+  parts-add (x *ℤ y) (x *ℤ z),
+  parts-mul x y,
+  parts-mul x z,
+  ap (λ n. up x * n) (parts-add y z),
+  ap (λ n. dn x * n) (parts-add y z),
+))
+
+pub mul-swap : (x y z : ℤ) → x *ℤ (y *ℤ z) ≡ y *ℤ (x *ℤ z)
+mul-swap x y z = same _ _ (omega (
+  arith,
+  parts-mul x (y *ℤ z),
+  parts-mul y (x *ℤ z),
+  ap (λ n. up x * n) (parts-mul y z),
+  ap (λ n. dn x * n) (parts-mul y z),
+  ap (λ n. up y * n) (parts-mul x z),
+  ap (λ n. dn y * n) (parts-mul x z),
+))
+
 -- ---- the size of an integer
 pub abs-parts : (z : ℤ) → natAbs z ≡ up z + dn z
 abs-parts (pos n) = omega arith
@@ -111,6 +139,18 @@ abs-mul (pos a) (pos b) = refl
 abs-mul (pos a) (negsuc b) = abs-neg (pos (a * suc b))
 abs-mul (negsuc a) (pos b) = abs-neg (pos (suc a * b))
 abs-mul (negsuc a) (negsuc b) = refl
+
+-- of the distance between two numbers
+pub abs-apart : (a b : ℕ) → natAbs (pos a -ℤ pos b) ≡ (a - b) + (b - a)
+abs-apart a b =
+    let z : ℤ = pos a -ℤ pos b in
+    let p = parts-minus (pos a) (pos b) in
+    let n = abs-parts z in
+    ⊎-elim (λ e. omega arith) (λ e. omega arith) (one-part z)
+
+-- how far a position of 0 to 2 h lies from h
+pub lever-most : (h position : ℕ) → position ≤ 2 * h → natAbs (pos h -ℤ pos position) ≤ h
+lever-most h position k = rw (abs-apart h position) (omega arith)
 
 -- ---- the range of an i64
 pub sfits-parts : (z : ℤ) → up z < 2 ^ 63 → dn z ≤ 2 ^ 63 → SFits w64 z
@@ -162,6 +202,9 @@ fails t e = subst (λ (b : Bool). T (not b)) (sym e) tt
 pub lt-true : (x y : ℤ) → ltZ x y ≡ true → up x + dn y < up y + dn x
 lt-true x y e = lt-parts {x = x} {y = y} (record { lt = holds (ltZ x y) e })
 
+pub lt-test : {x y : ℤ} → x <ℤ y → ltZ x y ≡ true
+lt-test h = is-true _ (h .lt)
+
 pub lt-false : (x y : ℤ) → ltZ x y ≡ false → up y + dn x ≤ up x + dn y
 lt-false x y e = le-parts {x = y} {y = x} (ltZ-no (fails (ltZ x y) e))
 
@@ -196,19 +239,65 @@ read s = F.toZ-ofZ s
 pub read-pos : (n : ℕ) → n < 2 ^ 63 → toZ w64 n ≡ pos n
 read-pos n h = F.toZ-pos w64 h
 
--- an operation's result fits where it is a small number
-pub fits-as : {x y : ℤ} → x ≡ y → natAbs y < 2 ^ 63 → SFits w64 x
-fits-as {x} {y} e h = subst (SFits w64) (sym e) (sfits-abs y h)
+-- zero is what has no bits
+pub bits-zero : {z : ℤ} → SFits w64 z → ofZ w64 z ≡ 0 → z ≡ pos 0
+bits-zero h e = sym (read h) ∙ ap (toZ w64) e
 
 -- the code's -n, of an unsigned n
 minus-pos : (n : ℕ) → n < 2 ^ 63 → pos 0 -ℤ toZ w64 n ≡ negℤ (pos n)
 minus-pos n h = rw (read-pos n h) (minus-is (pos n))
 
 pub minus-fits : (n : ℕ) → n < 2 ^ 63 → SFits w64 (pos 0 -ℤ toZ w64 n)
-minus-fits n h = fits-as (minus-pos n h) (omega (arith, abs-neg (pos n)))
+minus-fits n h = subst (SFits w64) (sym (minus-pos n h)) (sfits-abs (negℤ (pos n)) (omega (arith, abs-neg (pos n))))
 
 pub read-minus : (n : ℕ) → n < 2 ^ 63 → toZ w64 (ofZ w64 (pos 0 -ℤ toZ w64 n)) ≡ negℤ (pos n)
 read-minus n h = read (minus-fits n h) ∙ minus-pos n h
+
+-- ---- an expression of the code stands for a number: what it is, and the most that its size can be
+pub record Stands (x z : ℤ) (n : ℕ) : Type 0 where
+  pub is : x ≡ z
+  pub most : natAbs z ≤ n
+
+pub stands : (z : ℤ) (n : ℕ) → natAbs z ≤ n → Stands z z n
+stands z n h = record { is = refl; most = h }
+
+module _ {x y z w : ℤ} {m n : ℕ} (h : Stands x z m) (k : Stands y w n) where
+  pub stands-add : Stands (x +ℤ y) (z +ℤ w) (m + n)
+  stands-add = record { is = λ i. h .is i +ℤ k .is i; most = omega (arith, abs-add z w, h .most, k .most) }
+
+  pub stands-sub : Stands (x -ℤ y) (z -ℤ w) (m + n)
+  stands-sub = record { is = λ i. h .is i -ℤ k .is i; most = omega (arith, abs-sub z w, h .most, k .most) }
+
+  pub stands-mul : Stands (x *ℤ y) (z *ℤ w) (m * n)
+  stands-mul = record { is = λ i. h .is i *ℤ k .is i; most = omega (arith, abs-mul z w, NatL.mul-le-mul (h .most) (k .most)) }
+
+module _ {x z : ℤ} {n : ℕ} (h : Stands x z n) (room : n < 2 ^ 63) where
+  pub stands-fits : SFits w64 x
+  stands-fits = rw (h .is) (sfits-abs z (omega (arith, h .most)))
+
+  -- as it is read back where it was stored
+  pub stored : Stands (toZ w64 (ofZ w64 x)) z n
+  stored = record { is = read stands-fits ∙ h .is; most = h .most }
+
+-- what a call gave
+pub given : {x z : ℤ} (n : ℕ) → x ≡ z → natAbs z ≤ n → n < 2 ^ 63 → Stands (toZ w64 (ofZ w64 x)) z n
+given n e h room = stored (record { is = e; most = h }) room
+
+-- an unsigned number
+pub stands-pos : (k n : ℕ) → k ≤ n → n < 2 ^ 63 → Stands (toZ w64 k) (pos k) n
+stands-pos k n h room = record { is = read-pos k (omega arith); most = h }
+
+-- an i32
+sfits-i32 : (z : ℤ) → natAbs z < 2 ^ 31 → SFits w32 z
+sfits-i32 (pos n) h = record { sfits = h }
+sfits-i32 (negsuc n) h = record { sfits = omega arith }
+
+pub stands-i32 : (z : ℤ) (n : ℕ) → natAbs z ≤ n → n < 2 ^ 31 → Stands (toZ w32 (ofZ w32 z)) z n
+stands-i32 z n h room = record { is = read32 (sfits-i32 z (omega arith)); most = h }
+
+-- what it stands for, and that it is no larger
+pub stands-for : {x z : ℤ} {n : ℕ} → Stands x z n → (x ≡ z) × (natAbs x ≤ n)
+stands-for h = (h .is, rw (h .is) (h .most))
 
 -- ---- a range that is the same both ways, from -(k + 1) to k + 1
 pub both-ways : (k : ℕ) (z : ℤ) → leZ (negsuc k) z && leZ z (pos (suc k)) ≡ leb (natAbs z) (suc k)

@@ -1,9 +1,15 @@
--- Sums, a term at a time. Assumes nothing.
-use Prim.Native.Nat.{ℕ, _+_, _-_, _≤_}
-use mathlib.Core.Path.{_≡_, ap, _∙_}
+-- Sums and products of n terms: a term at a time, how large they get, what divides them. Assumes nothing.
+use Prim.Native.Nat.{ℕ, zero, suc, _+_, _*_, _-_, _^_, _≤_, _<_, _∣_}
+use mathlib.Core.Path.{_≡_, refl, sym, ap, _∙_, subst}
+use mathlib.Core.Logic.{⊎-elim}
+use native.Mathlib.Nat as NatL
 use native.Mathlib.Numerals.{add-one}
 use native.Mathlib.Omega.{arith}
-use Rattle.arith.specs.Sums.{sumN, after}
+use lib.IntN.{ℤ, pos, natAbs, _+ℤ_}
+use mir.Syntax.{w64}
+use mir.Val.{SFits, toZ, ofZ}
+use Rattle.arith.specs.Sums.{sumN, sumZ, prodN, after}
+use Rattle.arith.proofs.Signed.{abs-add, sfits-abs, read}
 
 -- the terms from one on, and one more
 pub run-next : (f : ℕ → ℕ) (from i : ℕ) → from ≤ i → sumN (i + 1 - from) (after from f) ≡ sumN (i - from) (after from f) + f i
@@ -12,3 +18,51 @@ run-next f from i h =
     let one : i + 1 - from ≡ (i - from) + 1 = omega arith in
     let here : from + (i - from) ≡ i = omega arith in
     rw (one, add-one) (ap (λ n. sumN (i - from) (after from f) + f n) here)
+
+pub sum-none : (f : ℕ → ℤ) → sumZ 0 f ≡ pos 0
+unfolding sumZ
+sum-none f = refl
+
+-- ---- a signed sum that a loop adds up: z is the sum of the first n terms, each of a size of at most B
+pub record Running (f : ℕ → ℤ) (B n : ℕ) (z : ℤ) : Type 0 where
+  pub is : z ≡ sumZ n f
+  pub most : natAbs z ≤ B * n
+
+pub running-none : (f : ℕ → ℤ) (B : ℕ) → Running f B 0 (pos 0)
+running-none f B = record { is = sym (sum-none f); most = omega arith }
+
+module _ {f : ℕ → ℤ} {B n : ℕ} {z : ℤ} (h : Running f B n z) (r : ℤ) (is : r ≡ f n) (most : natAbs r ≤ B) (room : B * (n + 1) < 2 ^ 63) where
+  more : Running f B (n + 1) (z +ℤ r)
+  unfolding sumZ
+  more = record { is = rw add-one (λ i. h .is i +ℤ is i); most = omega (arith, abs-add z r, h .most, NatL.mul-add B n 1) }
+
+  -- the term as the machine reads it back
+  back : toZ w64 (ofZ w64 r) ≡ r
+  back = read (sfits-abs r (omega (arith, most, NatL.mul-add B n 1)))
+
+  pub running-fits : SFits w64 (z +ℤ toZ w64 (ofZ w64 r))
+  running-fits = rw back (sfits-abs (z +ℤ r) (omega (arith, more .most)))
+
+  pub running-next : Running f B (n + 1) (toZ w64 (ofZ w64 (z +ℤ toZ w64 (ofZ w64 r))))
+  running-next = rw (read running-fits, back) more
+
+pub running-all : {f : ℕ → ℤ} {B n : ℕ} {z : ℤ} (m M : ℕ) → Running f B n z → n ≡ m → m ≤ M → (z ≡ sumZ m f) × (natAbs z ≤ B * M)
+running-all {f} {B} {n} m M h e k = (h .is ∙ ap (λ i. sumZ i f) e, omega (arith, h .most, ap (λ i. B * i) e, NatL.mul-le-mul-left B k))
+
+-- ---- where the terms are positive; and each factor divides the product
+pub sum-positive : (n : ℕ) (f : ℕ → ℕ) → 0 < n → ((i : ℕ) → i < n → 0 < f i) → 0 < sumN n f
+unfolding sumN
+sum-positive zero f some h = absurd (omega arith)
+sum-positive (suc n) f some h = omega (arith, h n (omega arith))
+
+pub prod-positive : (n : ℕ) (f : ℕ → ℕ) → ((i : ℕ) → i < n → 0 < f i) → 0 < prodN n f
+unfolding prodN
+prod-positive zero f h = omega arith
+prod-positive (suc n) f h = NatL.mul-pos (prod-positive n f (λ i k. h i (omega arith))) (h n (omega arith))
+
+pub factor-divides : (n : ℕ) (f : ℕ → ℕ) (i : ℕ) → i < n → f i ∣ prodN n f
+unfolding prodN
+factor-divides zero f i h = absurd (omega arith)
+factor-divides (suc n) f i h =
+    ⊎-elim (λ e. rw e (NatL.dvd-mul-left (f n) (prodN n f))) (λ k. NatL.dvd-mul-right-of-dvd (f i) (factor-divides n f i k) (f n))
+    (NatL.eq-or-lt-of-le {n = i} {m = n} (omega arith))

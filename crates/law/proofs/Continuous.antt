@@ -34,7 +34,7 @@ module _ (l : Law) (q : ℕ) where
       rw (half, NatL.mul-assoc (l .fcd) (2000 * q) (2000 * q)) (ap (λ m. l .fcd * m) (NatL.mul-mul-mul-comm 2000 q 2000 q ∙ sym (NatL.mul-assoc 4000000 q q)))
 
 -- ---- what is under the fraction's line is above zero
-either : (c : Bool) (t u : Stress) → 0 < t .den → 0 < u .den → 0 < (cond c t u) .den
+pub either : (c : Bool) (t u : Stress) → 0 < t .den → 0 < u .den → 0 < (cond c t u) .den
 either true t u h k = h
 either false t u h k = k
 

@@ -1,0 +1,9 @@
+pub mod Strains
+pub mod Strips
+pub mod Kept
+pub mod Listed
+pub mod Signs
+pub mod Rows
+pub mod Answers
+pub mod Rounded
+pub mod Theorems

@@ -1,0 +1,117 @@
+-- What is said of the balance of a section: the list, its refusal, and how far what is rounded lies from what is exact. Assumes nothing.
+use Prim.Native.Nat.{ℕ, suc, _+_, _*_, _/_, _≤_, _<_, _∣_}
+use mathlib.Core.Path.{_≡_, refl, sym, ap, _∙_}
+use mathlib.Core.Bool.{Bool, true, false}
+use mathlib.Core.Logic.{_⊎_, ⊎-elim, _↔_, Iff·trans}
+use mathlib.Core.List.{List, [], _∷_, List·Memᴰ, Memᴰ·cast}
+use native.Mathlib.Nat as NatL
+use native.Mathlib.Omega.{arith}
+use lib.Dec.{ltb, leb}
+use lib.IntN.{ℤ, pos, natAbs, _-ℤ_, _*ℤ_}
+use lib.ListN.{length}
+use borrow.Author.Tests.{lt-ltb}
+use Rattle.arith.proofs.Signed.{mul-neg}
+use Rattle.section.specs.declared.Section.{Section}
+use Rattle.section.specs.Refusal.{line, sectionRefusal}
+use Rattle.section.proofs.Accepted.{accepted}
+use Rattle.law.specs.Law.{lawOf}
+use Rattle.law.specs.Stress.{Stress, signed}
+use Rattle.balance.specs.Forces.{area, stripStress, barStress, imbalance, moment}
+use Rattle.balance.specs.Depths.{Entry, kindAt, lastDepth, listed, Balances, Rising}
+use Rattle.balance.specs.Exact.{exactOver, common, exactImbalance, exactMoment, ClearlyAbove, ClearlyBelow}
+use Rattle.balance.specs.Answers.{listRefusal}
+use Rattle.balance.proofs.Listed.{list-only, list-all, list-rising, list-empty, empty-list}
+use Rattle.balance.proofs.Signs.{falls, rises, kind-one, kind-two}
+use Rattle.balance.proofs.Rounded.{strip-divides, bar-divides, area-positive, imbalance-within, moment-within, above, below}
+use Rattle.balance.proofs.Rounded as Rounded
+
+-- ---- 1. the list has exactly the depths that balance, in strictly ascending order, and is refused as empty exactly where there is none
+pub listed-exactly : (s : Section) (e : Entry) → List·Memᴰ e (listed s) ↔ Balances s e
+listed-exactly s e = (only, all)
+  where
+    only : List·Memᴰ e (listed s) → Balances s e
+    only w =
+        let l = list-only (kindAt s) (moment s) (lastDepth s) e w in
+        let kind : e .kind ≡ kindAt s (e .depth) = ap (λ v. v .kind) (l .3) in
+        record { from = l .0; to = l .1; kind = kind; some = omega arith; moment = ap (λ v. v .moment) (l .3) }
+
+    all : Balances s e → List·Memᴰ e (listed s)
+    all b =
+        Memᴰ·cast (λ i. record { depth = e .depth; kind = b .kind i; moment = b .moment i })
+        (list-all (kindAt s) (moment s) (lastDepth s) (e .depth) (b .from) (b .to) (omega (arith, b .kind, b .some)))
+
+pub listed-rising : (s : Section) → Rising 0 (listed s)
+listed-rising s = list-rising (kindAt s) (moment s) (lastDepth s)
+
+pub none-listed : (s : Section) → (listed s ≡ []) ↔ ((x : ℕ) → 1 ≤ x → x ≤ lastDepth s → kindAt s x ≡ 0)
+none-listed s = (list-empty (kindAt s) (moment s) (lastDepth s), empty-list (kindAt s) (moment s) (lastDepth s))
+
+fourteen-where-empty : (es : List Entry) (rest : ℕ) → (rest ≡ 14 → ⊥) → (line (ltb 0 (length es)) 14 rest ≡ 14) ↔ (es ≡ [])
+fourteen-where-empty [] rest h = (λ e. refl, λ e. refl)
+fourteen-where-empty (e ∷ es) rest h = rw (lt-ltb 0 (length (e ∷ es)) (omega arith)) (λ e. absurd (h e), λ e. omega (arith, ap length e))
+
+not-fourteen : (t : Bool) → line t 15 0 ≡ 14 → ⊥
+not-fourteen true e = omega arith
+not-fourteen false e = omega arith
+
+pub fourteen-exactly : (s : Section) (room : ℕ) → sectionRefusal s ≡ 0 → (listRefusal s room ≡ 14) ↔ ((x : ℕ) → 1 ≤ x → x ≤ lastDepth s → kindAt s x ≡ 0)
+unfolding listRefusal
+fourteen-exactly s room ok = rw ok (Iff·trans (fourteen-where-empty (listed s) _ (not-fourteen (leb (3 * length (listed s)) room))) (none-listed s))
+
+-- ---- 2. the rounded sums lie within one kPa times the area of the exact ones, the moments within that times h
+pub imbalance-close : (s : Section) (x : ℕ) → sectionRefusal s ≡ 0 → 1 ≤ x → natAbs (exactImbalance s x -ℤ (pos (common s x) *ℤ imbalance s x)) < common s x * area s
+imbalance-close s x ok from = let a = accepted s ok in omega (arith, imbalance-within a from .within, area-positive a)
+
+pub moment-close : (s : Section) (x : ℕ) → sectionRefusal s ≡ 0 → 1 ≤ x → natAbs (exactMoment s x -ℤ (pos (common s x) *ℤ moment s x)) ≤ common s x * (area s * s .h)
+moment-close s x ok from = omega (arith, moment-within (accepted s ok) from .within)
+
+-- they have a denominator, and over it each stress is the fraction that it is
+pub common-positive : (s : Section) (x : ℕ) → sectionRefusal s ≡ 0 → 1 ≤ x → 0 < common s x
+common-positive s x ok from = Rounded.common-positive (accepted s ok) from
+
+abbrev pub SameOver : ℕ → Stress → Type 0
+SameOver C t = pos (t .den) *ℤ exactOver C t ≡ pos C *ℤ signed (t .pulls) (t .num)
+
+signed-scale : (d n : ℕ) (pulls : Bool) → pos d *ℤ signed pulls n ≡ signed pulls (d * n)
+signed-scale d n true = mul-neg (pos d) (pos n)
+signed-scale d n false = refl
+
+pub exact-same : (C : ℕ) (t : Stress) → t .den ∣ C → SameOver C t
+unfolding exactOver
+exact-same C t v =
+    let same : t .den * (t .num * (C / t .den)) ≡ C * t .num = omega (arith, ap (λ n. t .num * n) (NatL.mul-div-cancel' (t .den) v)) in
+    signed-scale (t .den) _ (t .pulls) ∙ ap (signed (t .pulls)) same ∙ sym (signed-scale C (t .num) (t .pulls))
+
+pub strip-exact : (s : Section) (x i : ℕ) → i < s .h → SameOver (common s x) (stripStress (lawOf s) s x i)
+strip-exact s x i h = exact-same (common s x) _ (strip-divides (lawOf s) s x i h)
+
+pub bar-exact : (s : Section) (x j : ℕ) → j < s .count → SameOver (common s x) (barStress (lawOf s) s x j)
+bar-exact s x j h = exact-same (common s x) _ (bar-divides (lawOf s) s x j h)
+
+-- ---- 3. a depth whose exact imbalance is clearly on one side of zero, and the next one's on the other, is listed
+listed-as : (s : Section) (x kind : ℕ) → 1 ≤ x → x ≤ lastDepth s → kindAt s x ≡ suc kind → List·Memᴰ (record { depth = x; kind = suc kind; moment = moment s x }) (listed s)
+listed-as s x kind from to e = rw e at (list-all (kindAt s) (moment s) (lastDepth s) x from to (omega arith))
+
+pub pair-listed :
+    (s : Section) (x : ℕ) → sectionRefusal s ≡ 0 → 1 ≤ x → x < lastDepth s
+    → (ClearlyAbove s x × ClearlyBelow s (x + 1)) ⊎ (ClearlyBelow s x × ClearlyAbove s (x + 1))
+    → List·Memᴰ (record { depth = x; kind = 2; moment = moment s x }) (listed s)
+pair-listed s x ok from to k =
+    let a = accepted s ok in
+    let next : 1 ≤ x + 1 = omega arith in
+    let two = kind-two s x to (⊎-elim (λ p. falls (above a from (p .0)) (below a next (p .1))) (λ p. rises (below a from (p .0)) (above a next (p .1))) k) in
+    listed-as s x 1 from (omega arith) two
+
+-- ---- 4. a depth whose imbalance is zero is listed, the last depth too; and each with its own moment
+pub zero-listed :
+    (s : Section) (x : ℕ) → 1 ≤ x → x ≤ lastDepth s → imbalance s x ≡ pos 0
+    → List·Memᴰ (record { depth = x; kind = 1; moment = moment s x }) (listed s)
+zero-listed s x from to e = listed-as s x 0 from to (kind-one s x e)
+
+pub last-zero-listed :
+    (s : Section) → sectionRefusal s ≡ 0 → imbalance s (lastDepth s) ≡ pos 0
+    → List·Memᴰ (record { depth = lastDepth s; kind = 1; moment = moment s (lastDepth s) }) (listed s)
+last-zero-listed s ok = zero-listed s (lastDepth s) (omega (arith, accepted s ok .height .0)) (omega arith)
+
+pub listed-moment : (s : Section) (e : Entry) → List·Memᴰ e (listed s) → e .moment ≡ moment s (e .depth)
+listed-moment s e w = listed-exactly s e .0 w .moment

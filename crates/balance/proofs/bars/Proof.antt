@@ -1,0 +1,105 @@
+-- `bars`: two running sums over the layers. Assumes nothing.
+use Prim.Native.Nat.{ℕ, _*_, _-_, _≤_, _<_}
+use mathlib.Core.Path.{_≡_, ap, _∙_}
+use native.Mathlib.Omega.{arith}
+use lib.IntN.{ℤ, pos, natAbs, _-ℤ_, _*ℤ_}
+use mir.Syntax.{w64}
+use mir.Val.{toZ, ofZ}
+use borrow.Author.Needs.{needs}
+use Rattle.arith.proofs.Signed.{read}
+use Rattle.arith.proofs.Sums.{Running, running-none, running-fits, running-next, running-all}
+use Rattle.section.specs.declared.Section.{Section}
+use Rattle.law.specs.declared.Law.{Law}
+use Rattle.law.specs.Law.{lawOf}
+use Rattle.law.specs.Stress.{rounded}
+use Rattle.law.proofs.Ranges.{law-in}
+use Rattle.balance.specs.Forces.{areaAt, depthAt, lever, barAt, barForce, barMoment}
+use Rattle.balance.proofs.bars.Statement.{statement}
+use Rattle.balance.proofs.bars.Tie as tie
+
+abbrev Forces : Section → ℕ → ℕ → ℤ → Type 0
+Forces s x n z = Running (barForce rounded (lawOf s) s x) (65535 * 521739) n z
+
+abbrev Moments : Section → ℕ → ℕ → ℤ → Type 0
+Moments s x n z = Running (barMoment rounded (lawOf s) s x) (1000 * (65535 * 521739)) n z
+
+abbrev Inv-loop : tie.InvT-loop
+Inv-loop law axis section m h sum₀ moment₀ j₀ sum moment j = (j ≤ m) × Forces section (axis .x) j (toZ w64 sum) × Moments section (axis .x) j (toZ w64 moment)
+
+abbrev μ-loop : tie.MeasureT-loop
+μ-loop law axis section m h sum₀ moment₀ j₀ sum moment j = m - j
+
+abbrev start : tie.After-force Inv-loop μ-loop → tie.Start Inv-loop μ-loop
+start c = c .before .before .before .before .before
+
+abbrev at : tie.After-force Inv-loop μ-loop → ℕ
+at c = c .before .before .before .before .loop .j
+
+-- the most that 7 to 13 let a bar's strength be
+weak : (c : tie.After-bar Inv-loop μ-loop) → natAbs (c .bar .result) ≤ 521739
+weak c =
+    let p = c .before .before .before .before .pre in
+    omega (arith, c .bar .ensures .1, ap (λ (l : Law). l .fyd) (p .1), law-in (p .0) .fyd .1)
+
+force-requires : tie.Need-force-requires Inv-loop μ-loop
+force-requires c κs = rw (read (record { sfits = c .bar .ok })) (weak c)
+
+force-is : (c : tie.After-force Inv-loop μ-loop) → c .force .result ≡ barForce rounded (lawOf (start c .args .t1)) (start c .args .t1) (start c .args .axis .x) (at c)
+unfolding barForce
+force-is c =
+    let s = start c .args .t1 in
+    let a = start c .args .axis in
+    let p = start c .pre in
+    c .force .ensures .0
+    ∙ ap (λ z. pos (areaAt s (at c)) *ℤ z) (read (record { sfits = c .before .bar .ok }) ∙ c .before .bar .ensures .0 ∙ (λ i. rounded (barAt (p .1 i) (p .2 i) (a .x) (depthAt s (at c)))))
+
+turned-requires : tie.Need-turned-requires Inv-loop μ-loop
+turned-requires c κs =
+    let p = start (c .before) .pre .0 in
+    (p .height .1, omega (arith, p .layer (at (c .before)) (omega arith) .inside), rw (read (record { sfits = c .before .force .ok })) (c .before .force .ensures .1))
+
+turned-is : (c : tie.After-turned Inv-loop μ-loop) → c .turned .result ≡ barMoment rounded (lawOf (start (c .before .before) .args .t1)) (start (c .before .before) .args .t1) (start (c .before .before) .args .axis .x) (at (c .before .before))
+unfolding barMoment
+turned-is c = c .turned .ensures .0 ∙ ap (λ z. lever (start (c .before .before) .args .t1) (2 * depthAt (start (c .before .before) .args .t1) (at (c .before .before))) *ℤ z) (read (record { sfits = c .before .before .force .ok }) ∙ force-is (c .before .before))
+
+few : (c : tie.After-force Inv-loop μ-loop) → at c < 8
+few c = omega (arith, start c .pre .0 .few)
+
+loop-again : tie.Need-loop-again Inv-loop μ-loop
+loop-again c =
+    let f = c .before .before in
+    let i = f .before .before .before .before .loop .inv in (
+      omega arith,
+      running-next (i .1) (f .force .result) (force-is f) (f .force .ensures .1) (omega (arith, few f)),
+      running-next (i .2) (c .turned .result) (turned-is c) (c .turned .ensures .1) (omega (arith, few f)),
+    )
+
+returns : tie.Need-returns Inv-loop μ-loop
+returns c =
+    let s = c .before .before .args .t1 in
+    let i = c .before .loop .inv in
+    let f = running-all (s .count) 8 (i .1) (omega arith) (c .before .before .pre .0 .few) in
+    let m = running-all (s .count) 8 (i .2) (omega arith) (c .before .before .pre .0 .few) in
+    (f .0, f .1, m .0, m .1)
+
+pub bars-spec : {M : Type 1} → statement M
+bars-spec =
+    tie.close
+    (tie.spec
+    Inv-loop
+    μ-loop
+    (λ c. search needs)
+    (λ c. (omega arith, running-none _ _, running-none _ _))
+    (λ c. search needs)
+    (λ c. search needs)
+    (λ c κs. search needs)
+    force-requires
+    (λ c. running-fits (c .before .before .before .before .loop .inv .1) (c .force .result) (force-is c) (c .force .ensures .1) (omega (arith, few c)))
+    (λ c. search needs)
+    (λ c. search needs)
+    turned-requires
+    (λ c. running-fits (c .before .before .before .before .before .before .loop .inv .2) (c .turned .result) (turned-is c) (c .turned .ensures .1) (omega (arith, few (c .before .before))))
+    (λ c. search needs)
+    (λ c. search needs)
+    loop-again
+    returns)

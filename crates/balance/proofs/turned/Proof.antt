@@ -1,0 +1,29 @@
+-- `turned`: a difference and a product that 64 bits hold. Assumes nothing.
+use Prim.Native.Nat.{_*_}
+use native.Mathlib.Omega.{arith}
+use lib.IntN.{pos, _-ℤ_, _*ℤ_}
+use mir.Syntax.{w64}
+use mir.Val.{toZ, ofZ}
+use borrow.Author.Needs.{needs}
+use Rattle.arith.proofs.Signed.{Stands, stands, stands-pos, stands-mul, stands-fits, stored, stands-for, read-pos, lever-most}
+use Rattle.balance.proofs.turned.Statement.{statement}
+use Rattle.balance.proofs.turned.Tie as tie
+
+lever : (c : tie.Start) → Stands (toZ w64 (c .args .h) -ℤ toZ w64 (c .args .position)) (pos (c .args .h) -ℤ pos (c .args .position)) 1000
+lever c = record {
+  is = λ i. read-pos (c .args .h) (omega arith) i -ℤ read-pos (c .args .position) (omega arith) i;
+  most = omega (arith, lever-most (c .args .h) (c .args .position) (c .pre .1), c .pre .0);
+}
+
+product : (c : tie.Start) → Stands (toZ w64 (ofZ w64 (toZ w64 (c .args .h) -ℤ toZ w64 (c .args .position))) *ℤ toZ w64 (ofZ w64 (c .args .force))) ((pos (c .args .h) -ℤ pos (c .args .position)) *ℤ c .args .force) (1000 * (65535 * 521739))
+product c = stands-mul (stored (lever c) (omega arith)) (stored (stands (c .args .force) (65535 * 521739) (c .pre .2)) (omega arith))
+
+pub turned-spec : {M : Type 1} → statement M
+turned-spec =
+    tie.close
+    (tie.spec
+    (λ c. search needs)
+    (λ c. search needs)
+    (λ c. stands-fits (lever c) (omega arith))
+    (λ c. stands-fits (product c) (omega arith))
+    (λ c. stands-for (stored (product c) (omega arith))))

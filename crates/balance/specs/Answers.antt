@@ -1,0 +1,42 @@
+-- What imbalance, moment and the list of depths answer, refusals included (document 01, 'What is refused').
+use Prim.Native.Nat.{ℕ, _*_}
+use mathlib.Core.Bool.{cond}
+use mathlib.Core.List.{List, _++_}
+use lib.Dec.{ltb, leb, eqb}
+use lib.IntN.{ℤ, pos}
+use lib.ListN.{length, drop}
+use Rattle.arith.specs.Answers.{unlessRefused}
+use Rattle.section.specs.declared.Section.{Section}
+use Rattle.section.specs.Refusal.{line, firstOf, within, sectionRefusal}
+use Rattle.balance.specs.declared.Amount.{Amount}
+use Rattle.balance.specs.declared.Listing.{Listing}
+use Rattle.balance.specs.Forces.{imbalance, moment}
+use Rattle.balance.specs.Depths.{lastDepth, listed, words}
+
+-- ---- imbalance and moment at a depth: 7 to 13 first, then 18
+unfoldable pub gridRefusal : Section → ℕ → ℕ
+gridRefusal s x = firstOf (sectionRefusal s) (line (within 1 (lastDepth s) x) 18 0)
+
+abbrev pub answered : ℤ → Amount
+answered amount = record { refusal = 0; amount = amount }
+
+abbrev pub refused : ℕ → Amount
+refused number = record { refusal = number; amount = pos 0 }
+
+unfoldable pub imbalanceAnswer : Section → ℕ → Amount
+imbalanceAnswer s x = unlessRefused (gridRefusal s x) (answered (imbalance s x)) refused
+
+unfoldable pub momentAnswer : Section → ℕ → Amount
+momentAnswer s x = unlessRefused (gridRefusal s x) (answered (moment s x)) refused
+
+-- ---- the list, into a row of so many words: 7 to 13, then 14 where there is no depth to list, then 15 where the row is shorter than three words a depth
+unfoldable pub listRefusal : Section → ℕ → ℕ
+listRefusal s room = firstOf (sectionRefusal s) (line (ltb 0 (length (listed s))) 14 (line (leb (3 * length (listed s)) room) 15 0))
+
+-- the number of listed depths, under 15 too
+abbrev pub listAnswer : Section → ℕ → Listing
+listAnswer s room = record { refusal = listRefusal s room; count = cond (eqb (sectionRefusal s) 0) (length (listed s)) 0 }
+
+-- the row afterwards: the words after the list stay, and on any refusal all stay
+unfoldable pub rowAfter : Section → List ℤ → List ℤ
+rowAfter s row = cond (eqb (listRefusal s (length row)) 0) (words (listed s) ++ drop (3 * length (listed s)) row) row

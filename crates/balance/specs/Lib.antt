@@ -1,0 +1,4 @@
+pub mod Forces
+pub mod Depths
+pub mod Exact
+pub mod Answers
