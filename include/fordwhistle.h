@@ -2,7 +2,7 @@
  *
  * Every function takes any input, returns, keeps nothing and calls nothing. An answer begins with its refusal: 0 where the call is
  * answered, else the first number below that holds of those that concern the call, and every other number of the answer is then 0
- * (of a double, plus zero).
+ * (of a double, plus zero), save the count beside 15. A refused call writes nothing.
  *
  *    6  record not 24 + 4m bytes, m over 8, or the zero not zero
  *    7  concrete not in the table: fck is none of 20, 25, 30, 35, 40, 45, 50
@@ -13,8 +13,10 @@
  *   12  bars: a layer's depth outside 1 to h-1, an area of 0, depths that do not rise strictly, or a deepest layer that does not lie
  *       below mid-height (twice its depth is not more than h)
  *   13  stirrups without spacing: Asw is not 0 and s is
+ *   14  no depth to list
+ *   15  row shorter than three words a listed depth; the count beside it is the number of listed depths
  *   17  fR1 is below 1000 kPa, or fR3 is below half the step
- *   18  strain outside -10000 to 3500
+ *   18  strain outside -10000 to 3500, or a depth that is not on the grid, 1 to h
  *
  * Stress is in kPa (0.001 N/mm2), strain in millionths, length in mm, area in mm2. Compression is positive.
  */
@@ -45,8 +47,8 @@ extern "C" {
  *   24 + 4j  16         depth of bar layer j from the compressed face, for each j from 0 to m-1
  *   26 + 4j  16         its area
  *
- * A function that takes one takes a pointer, never null, to len bytes that may be read. It reads no other byte and writes none. len is
- * any length, 0 too: what is wrong with it is refused. */
+ * A function that takes one takes a pointer, never null, to len bytes that may be read. It reads no other byte and writes none, save the
+ * row that is lent to fw_depths. len is any length, 0 too: what is wrong with it is refused. */
 
 /* The class of a fibre concrete.
  * step: the largest of 1000, 1500, 2000, 2500, 3000, 3500, 4000, 4500, 5000, 6000, 7000, 8000 that is at most fR1; the step itself,
@@ -85,6 +87,42 @@ typedef struct {
 
 /* The point of a record's section at a whole strain. Refusal 6, then 7 to 13, then 18; strain and stress are then plus zero. */
 fw_drawn fw_draw(const uint8_t *record, size_t len, int32_t strain);
+
+/* The balance of a section with its neutral axis at a depth x from the compressed face, a whole one from 1 to h: the grid.
+ *
+ * Where 7d > 27x the strain at depth y is 10000 (x - y) / (d - x), else 3500 (x - y) / x, with d as above. It stays an exact fraction.
+ * The section is cut in h strips of 1 mm, each with the strain at its middle. A strip's stress is that of the law above, and zero in
+ * tension beyond e3. A bar layer's is 200 times the strain, its size at most fyd, which is 100000 fyk / 115 rounded down. The size of
+ * each strip's and each bar layer's stress is rounded down to a whole number of kPa, and nothing before it. Bars add their whole force;
+ * the concrete in their place is not taken off.
+ *
+ * imbalance: compression forces minus tension forces minus the axial load, in mN.
+ * moment: about mid-height, the sum of each force times twice its distance, in mN half-mm; positive where the compressed face is on top. */
+typedef struct {
+    uint32_t refusal;
+    int64_t amount;
+} fw_amount;
+
+/* The imbalance of a record's section at depth x. Refusal 6, then 7 to 13, then 18 where x is 0 or more than h; amount is then 0. */
+fw_amount fw_imbalance(const uint8_t *record, size_t len, uint32_t x);
+
+/* The moment of a record's section at depth x, balanced or not. Refused as fw_imbalance is. */
+fw_amount fw_moment(const uint8_t *record, size_t len, uint32_t x);
+
+/* The depths at which a section balances.
+ * Depth x is listed as kind 1 if the imbalance there is zero, and as kind 2 if x < h and the imbalances at x and x + 1 have strictly
+ * opposite signs. There may be several: fibre concrete softens after its first crack. All are listed, the shallowest first.
+ * count: the number of listed depths. */
+typedef struct {
+    uint32_t refusal, count;
+} fw_listed;
+
+/* Writes the listed depths of a record's section into a lent row, three words each: x, its kind, the moment at x. The words after them
+ * stay. Refusal 6, then 7 to 13, then 14, and count is then 0; then 15 where words is less than 3 times the number of listed depths,
+ * and count is then that number. On any refusal the whole row stays.
+ * row is a pointer, never null, to as many words as said that may be read and written; none of them is part of the record. words is any
+ * number, 0 too. 3 h words hold every list of a section of height h, so 3000 the list of any section. */
+fw_listed fw_depths(const uint8_t *record, size_t len, int64_t *row, size_t words);
 
 #ifdef __cplusplus
 }

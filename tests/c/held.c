@@ -4,6 +4,10 @@
  *
  *   'c'  fw_class: fR1, fR3, 16 bits each; refusal, step, letter, 32 bits each
  *   'd'  fw_draw: len, 16 bits; a record of len bytes; strain, 32 bits signed; refusal, 32 bits; the bits of strain and stress, 64 each
+ *   'i'  fw_imbalance: len and a record likewise; x, 32 bits; refusal, 32 bits; amount, 64 bits signed
+ *   'm'  fw_moment: the same
+ *   'l'  fw_depths: len and a record likewise; words, 16 bits; the row before the call and the row after it, 64 bits a word; refusal and
+ *        count, 32 bits each
  *
  * Numbers are little-endian. */
 #define _DEFAULT_SOURCE /* for MAP_ANONYMOUS */
@@ -16,25 +20,29 @@
 
 #include "bits.h"
 
-/* What a length of 16 bits counts at most, in whole pages of any usual size. */
-enum { ROOM = 65536 };
+/* What a length of 16 bits counts at most, in whole pages of any usual size; and the words before a row that are looked at too. */
+enum { ROOM = 65536, BEFORE = 64 };
 
-/* Records are put where they end here, and no byte from here on can be read: the library is not compiled with the sanitizers, so they
- * would not see it read past a record. */
+/* Records and rows are put where they end here, and no byte from here on can be read or written: the library is not compiled with the
+ * sanitizers, so they would not see it go past an end. */
 static uint8_t *edge;
+static int64_t *row_edge;
+
+/* What the words up to row_edge should hold after the call. */
+static int64_t row_after[BEFORE + ROOM];
 
 static unsigned long held, not_held;
 
 /* Set where a case can't be read, nor what follows it. */
 static int broken;
 
-static int make_edge(void)
+/* The end of so much room, whole pages, or null. */
+static void *edge_of(size_t room)
 {
-    uint8_t *room = mmap(NULL, 2 * ROOM, PROT_READ | PROT_WRITE, MAP_PRIVATE | MAP_ANONYMOUS, -1, 0);
-    if (room == MAP_FAILED)
-        return 0;
-    edge = room + ROOM;
-    return mprotect(edge, ROOM, PROT_NONE) == 0;
+    uint8_t *start = mmap(NULL, room + ROOM, PROT_READ | PROT_WRITE, MAP_PRIVATE | MAP_ANONYMOUS, -1, 0);
+    if (start == MAP_FAILED || mprotect(start + room, ROOM, PROT_NONE) != 0)
+        return NULL;
+    return start + room;
 }
 
 /* The next number of the given bytes. */
@@ -64,6 +72,24 @@ static const uint8_t *part(size_t len)
 static int told(void)
 {
     return !broken && not_held < 10;
+}
+
+/* The next words. */
+static void read_words(int64_t *to, size_t words)
+{
+    for (size_t i = 0; i < words && !broken; i++)
+        to[i] = (int64_t)number(8);
+}
+
+/* The next row, up to its edge, with a pattern before it; and in row_after the one that should become of it, with the same. */
+static int64_t *row_of(size_t words)
+{
+    int64_t *row = row_edge - words;
+    for (size_t i = 0; i < BEFORE; i++)
+        row[(ptrdiff_t)i - BEFORE] = row_after[i] = INT64_MIN + (int64_t)i;
+    read_words(row, words);
+    read_words(row_after + BEFORE, words);
+    return row;
 }
 
 /* As much of a record as one of 8 layers has. Who writes the cases reads no line before the last of them, so few bytes may wait there. */
@@ -105,11 +131,54 @@ static int draw_held(void)
     return 0;
 }
 
+static int amount_held(const char *name, fw_amount (*function)(const uint8_t *, size_t, uint32_t))
+{
+    size_t len = (size_t)number(2);
+    const uint8_t *record = part(len);
+    uint32_t x = (uint32_t)number(4), refusal = (uint32_t)number(4);
+    int64_t amount = (int64_t)number(8);
+    fw_amount answer = function(record, len, x);
+    if (answer.refusal == refusal && answer.amount == amount)
+        return 1;
+    if (told()) {
+        printf("%s(", name);
+        print_start(record, len);
+        printf(", %zu, %u) gives %u, %" PRId64 " and not %u, %" PRId64 "\n", len, x, answer.refusal, answer.amount, refusal, amount);
+    }
+    return 0;
+}
+
+static int depths_held(void)
+{
+    size_t len = (size_t)number(2);
+    const uint8_t *record = part(len);
+    size_t words = (size_t)number(2), at = 0;
+    int64_t *row = row_of(words), *from = row - BEFORE;
+    uint32_t refusal = (uint32_t)number(4), count = (uint32_t)number(4);
+    fw_listed listed = fw_depths(record, len, row, words);
+    while (at < BEFORE + words && from[at] == row_after[at])
+        at++;
+    if (listed.refusal == refusal && listed.count == count && at == BEFORE + words)
+        return 1;
+    if (told()) {
+        printf("fw_depths(");
+        print_start(record, len);
+        printf(", %zu, row, %zu) gives %u, %u and not %u, %u", len, words, listed.refusal, listed.count, refusal, count);
+        if (at < BEFORE + words)
+            printf(", and word %td of the row is %" PRId64 " and not %" PRId64, (ptrdiff_t)at - BEFORE, from[at], row_after[at]);
+        puts("");
+    }
+    return 0;
+}
+
 static int case_held(int function)
 {
     switch (function) {
     case 'c': return class_held();
     case 'd': return draw_held();
+    case 'i': return amount_held("fw_imbalance", fw_imbalance);
+    case 'm': return amount_held("fw_moment", fw_moment);
+    case 'l': return depths_held();
     }
     printf("no function is '%c'\n", function);
     broken = 1;
@@ -118,8 +187,10 @@ static int case_held(int function)
 
 int main(void)
 {
-    if (!make_edge()) {
-        puts("no room for a record");
+    edge = edge_of(ROOM);
+    row_edge = edge_of(sizeof *row_edge * ROOM + ROOM);
+    if (edge == NULL || row_edge == NULL) {
+        puts("no room for a record and a row");
         return 1;
     }
     for (int function; !broken && (function = getchar()) != EOF;) {

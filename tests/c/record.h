@@ -1,4 +1,4 @@
-/* record.h: a section by its fields and the bytes of its record, for the C tests of what is asked of a record. */
+/* record.h: a section by its fields and the bytes of its record, for the C tests and the bench of what is asked of a record. */
 #ifndef RECORD_H
 #define RECORD_H
 

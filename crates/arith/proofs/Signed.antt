@@ -160,10 +160,6 @@ sfits-parts (negsuc n) h k = record { sfits = k }
 pub sfits-abs : (z : ℤ) → natAbs z < 2 ^ 63 → SFits w64 z
 sfits-abs z h = sfits-parts z (omega (arith, abs-parts z)) (omega (arith, abs-parts z))
 
-pub parts-sfits : (z : ℤ) → SFits w64 z → (up z < 2 ^ 63) × (dn z ≤ 2 ^ 63)
-parts-sfits (pos n) s = (s .sfits, omega arith)
-parts-sfits (negsuc n) s = (omega arith, s .sfits)
-
 -- ---- the order
 pub lt-parts : {x y : ℤ} → x <ℤ y → up x + dn y < up y + dn x
 lt-parts {x = pos a} {y = pos b} h = omega (arith, ltb→lt a b (h .lt))
@@ -226,7 +222,8 @@ parts-nonNeg (negsuc n) h = absurd (omega arith)
 pub minus-is : (x : ℤ) → pos 0 -ℤ x ≡ negℤ x
 minus-is x = +ℤ-idl (negℤ x)
 
--- `omega (arith, zarith, ..)` reads and proves orders and equations of ℤ, and reads the flags of signed tests. What it does not find by itself is listed at its operands: `parts-add x y`, `parts-minus x y`, `up-scale n x`, `dn-scale n x`, `up-neg x`, `dn-neg x`, `abs-parts x`
+-- `omega (arith, zarith, ..)` reads and proves orders and equations of ℤ, and reads the flags of signed tests. What it does not find by itself is
+-- listed at its operands: `parts-add x y`, `parts-minus x y`, `up-scale n x`, `dn-scale n x`, `up-neg x`, `dn-neg x`, `abs-parts x`
 pub ruleset zarith = (lt-parts, le-parts, eq-parts, lt-true, lt-false, le-true, le-false, parts-lt, parts-le, same, sfits-abs, parts-nonNeg)
 
 -- ---- what the machine reads back from a signed number's bits
@@ -235,6 +232,10 @@ read32 s = F.toZ-ofZ s
 
 pub read : {z : ℤ} → SFits w64 z → toZ w64 (ofZ w64 z) ≡ z
 read s = F.toZ-ofZ s
+
+-- a number as it is read back where it was stored
+abbrev pub back : ℤ → ℤ
+back z = toZ w64 (ofZ w64 z)
 
 pub read-pos : (n : ℕ) → n < 2 ^ 63 → toZ w64 n ≡ pos n
 read-pos n h = F.toZ-pos w64 h
@@ -275,13 +276,15 @@ module _ {x z : ℤ} {n : ℕ} (h : Stands x z n) (room : n < 2 ^ 63) where
   pub stands-fits : SFits w64 x
   stands-fits = rw (h .is) (sfits-abs z (omega (arith, h .most)))
 
-  -- as it is read back where it was stored
-  pub stored : Stands (toZ w64 (ofZ w64 x)) z n
+  pub stored : Stands (back x) z n
   stored = record { is = read stands-fits ∙ h .is; most = h .most }
 
--- what a call gave
-pub given : {x z : ℤ} (n : ℕ) → x ≡ z → natAbs z ≤ n → n < 2 ^ 63 → Stands (toZ w64 (ofZ w64 x)) z n
+-- what a call gave, with a bound on what it is, or on itself
+pub given : {x z : ℤ} (n : ℕ) → x ≡ z → natAbs z ≤ n → n < 2 ^ 63 → Stands (back x) z n
 given n e h room = stored (record { is = e; most = h }) room
+
+pub returned : {x z : ℤ} (n : ℕ) → x ≡ z → natAbs x ≤ n → n < 2 ^ 63 → Stands (back x) z n
+returned n e h room = given n e (rw (← e) h) room
 
 -- an unsigned number
 pub stands-pos : (k n : ℕ) → k ≤ n → n < 2 ^ 63 → Stands (toZ w64 k) (pos k) n

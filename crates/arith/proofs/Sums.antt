@@ -1,6 +1,6 @@
 -- Sums and products of n terms: a term at a time, how large they get, what divides them. Assumes nothing.
 use Prim.Native.Nat.{ℕ, zero, suc, _+_, _*_, _-_, _^_, _≤_, _<_, _∣_}
-use mathlib.Core.Path.{_≡_, refl, sym, ap, _∙_, subst}
+use mathlib.Core.Path.{_≡_, refl, sym, ap, _∙_}
 use mathlib.Core.Logic.{⊎-elim}
 use native.Mathlib.Nat as NatL
 use native.Mathlib.Numerals.{add-one}
@@ -18,6 +18,50 @@ run-next f from i h =
     let one : i + 1 - from ≡ (i - from) + 1 = omega arith in
     let here : from + (i - from) ≡ i = omega arith in
     rw (one, add-one) (ap (λ n. sumN (i - from) (after from f) + f n) here)
+
+runs-joined : (f : ℕ → ℕ) (from m n : ℕ) → sumN (m + n) (after from f) ≡ sumN m (after from f) + sumN n (after (from + m) f)
+unfolding sumN
+runs-joined f from m zero = rw (NatL.add-zero m) (sym (NatL.add-zero (sumN m (after from f))))
+runs-joined f from m (suc n) = rw (NatL.add-suc m n, runs-joined f from m n, ← NatL.add-assoc from m n) (NatL.add-assoc (sumN m (after from f)) (sumN n (after (from + m) f)) (f (from + m + n)))
+
+-- a run, cut in two
+pub run-cut : (f : ℕ → ℕ) (from mid to : ℕ) → from ≤ mid → mid ≤ to → sumN (to - from) (after from f) ≡ sumN (mid - from) (after from f) + sumN (to - mid) (after mid f)
+run-cut f from mid to h k =
+    ap (λ n. sumN n (after from f)) (omega arith) ∙ runs-joined f from (mid - from) (to - mid)
+    ∙ ap (λ n. sumN (mid - from) (after from f) + sumN (to - mid) (after n f)) (omega arith)
+
+-- a run of terms that are alike
+pub run-flat : (f : ℕ → ℕ) (c from n : ℕ) → ((i : ℕ) → from ≤ i → i < from + n → f i ≡ c) → sumN n (after from f) ≡ c * n
+unfolding sumN
+run-flat f c from zero h = sym (NatL.mul-zero c)
+run-flat f c from (suc n) h = rw (run-flat f c from n (λ i p q. h i p (omega arith)), h (from + n) (omega arith) (omega arith)) (sym (NatL.mul-suc c n))
+
+run-none : (f : ℕ → ℕ) (from : ℕ) → sumN 0 (after from f) ≡ 0
+unfolding sumN
+run-none f from = refl
+
+-- a run of none
+pub run-nil : (f : ℕ → ℕ) (from to : ℕ) → ((i : ℕ) → from ≤ i → i < to → f i ≡ 0) → 0 ≡ sumN (to - from) (after from f)
+run-nil f from to h = sym (run-flat f 0 from (to - from) (λ i p q. h i p (omega arith)) ∙ NatL.zero-mul (to - from))
+
+-- a run whose first terms are alike and whose last are none
+pub run-middle :
+    (f : ℕ → ℕ) (c from start end to : ℕ) → from ≤ start → start ≤ end → end ≤ to
+    → ((i : ℕ) → from ≤ i → i < start → f i ≡ c) → ((i : ℕ) → end ≤ i → i < to → f i ≡ 0)
+    → c * (start - from) + sumN (end - start) (after start f) ≡ sumN (to - from) (after from f)
+run-middle f c from start end to h k j first last =
+    let alike = run-flat f c from (start - from) (λ i p q. first i p (omega arith)) in
+    let none = run-nil f end to last in
+    omega (arith, alike, none, run-cut f from start to h (omega arith), run-cut f start end to k j)
+
+-- a run whose first terms are none
+pub run-late :
+    (f : ℕ → ℕ) (from start to : ℕ) → from ≤ start → ((i : ℕ) → from ≤ i → i < start → f i ≡ 0)
+    → sumN (to - start) (after start f) ≡ sumN (to - from) (after from f)
+run-late f from start to h first =
+    ⊎-elim (λ z. rw z (run-none f start ∙ run-nil f from to (λ i p q. first i p (omega arith))))
+    (λ z. omega (arith, run-cut f from start to h (omega arith), run-nil f from start first))
+    (NatL.eq-zero-or-pos (to - start))
 
 pub sum-none : (f : ℕ → ℤ) → sumZ 0 f ≡ pos 0
 unfolding sumZ

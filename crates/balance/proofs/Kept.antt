@@ -10,7 +10,7 @@ use lib.ListN.{length, getD, set}
 use lib.Seq.{getD-set-same, getD-set-other}
 use Rattle.section.specs.declared.Section.{Section}
 use Rattle.balance.specs.Forces.{imbalance}
-use Rattle.balance.specs.Depths.{Kept}
+use Rattle.balance.specs.Code.{Kept}
 
 pub kept-next : (s : Section) (n : ℕ) (kept : List ℤ) (z : ℤ) → Kept s n kept → n < length kept → z ≡ imbalance s (n + 1) → Kept s (n + 1) (set kept n z)
 kept-next s n kept z k h e i j =

@@ -1,19 +1,18 @@
 -- The strains of a neutral axis, and the stress of a bar. Assumes nothing.
-use Prim.Native.Nat.{ℕ, _+_, _*_, _-_, _≤_, _<_}
-use mathlib.Core.Path.{_≡_, refl, sym, ap, _∙_}
+use Prim.Native.Nat.{ℕ, _*_, _-_, _≤_, _<_}
+use mathlib.Core.Path.{_≡_, refl, sym, _∙_}
 use mathlib.Core.Bool.{Bool, true, false, cond}
 use native.Mathlib.Nat as NatL
-use native.Mathlib.Omega.{arith}
 use lib.Dec.{leb}
 use borrow.Author.Tests.{lt-ltb, le-ltb}
 use Rattle.section.specs.declared.Section.{Section}
 use Rattle.law.specs.declared.Law.{Law}
 use Rattle.law.specs.Edition.{edition}
 use Rattle.law.specs.Law.{limitDepth}
-use Rattle.law.specs.Stress.{Stress, signed, size, rounded, flat, elastic, bar}
+use Rattle.law.specs.Stress.{signed, size, rounded, flat, elastic, bar}
 use Rattle.law.proofs.Continuous.{either-way}
 use Rattle.strips.specs.Strips.{Scale}
-use Rattle.balance.specs.Forces.{strainScale, barAt}
+use Rattle.balance.specs.Forces.{strainScale}
 
 module _ (s : Section) (x d : ℕ) (is : d ≡ limitDepth s) where
   pub steep : 27 * x < 7 * d → record { num = 10000; den = 2 * (d - x) } ≡ strainScale s x

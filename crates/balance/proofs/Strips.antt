@@ -20,7 +20,7 @@ use Rattle.law.proofs.Sizes.{small-law}
 use Rattle.strips.specs.declared.Axis.{Axis}
 use Rattle.strips.specs.Strips.{strip, scaleOf, stripSize, runOf}
 use Rattle.strips.proofs.Runs.{strip-rounded}
-use Rattle.balance.specs.Forces.{strainScale, widthAt, stripStress, stripForce}
+use Rattle.balance.specs.Forces.{strainScale, stripStress, stripForce}
 
 -- ---- a run of strips of one width and one side
 signed-add : (pulls : Bool) (m n : ℕ) → signed pulls (m + n) ≡ signed pulls m +ℤ signed pulls n
@@ -37,7 +37,9 @@ unfolding sumZ sumN
 run-more f g w from zero pulls h = rw (NatL.add-zero from, nothing w pulls) (sym (+ℤ-idr (sumZ from f)))
 run-more f g w from (suc n) pulls h =
     let t = sumN n (after from g) in
-    rw (NatL.add-suc from n, run-more f g w from n pulls (λ i p q. h i p (omega arith)), h (from + n) (omega arith) (omega arith), signed-add pulls t (g (from + n)), mul-add (pos w) (signed pulls t) (signed pulls (g (from + n))))
+    let first = run-more f g w from n pulls (λ i p q. h i p (omega arith)) in
+    let last = h (from + n) (omega arith) (omega arith) in
+    rw (NatL.add-suc from n, first, last, signed-add pulls t (g (from + n)), mul-add (pos w) (signed pulls t) (signed pulls (g (from + n))))
     (+ℤ-assoc (sumZ from f) (pos w *ℤ signed pulls t) (pos w *ℤ signed pulls (g (from + n))))
 
 run-to : (f : ℕ → ℤ) (g : ℕ → ℕ) (w from to : ℕ) (pulls : Bool) → from ≤ to → ((i : ℕ) → from ≤ i → i < to → f i ≡ pos w *ℤ signed pulls (g i))

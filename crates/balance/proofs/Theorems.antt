@@ -18,7 +18,7 @@ use Rattle.law.specs.Law.{lawOf}
 use Rattle.law.specs.Stress.{Stress, signed}
 use Rattle.balance.specs.Forces.{area, stripStress, barStress, imbalance, moment}
 use Rattle.balance.specs.Depths.{Entry, kindAt, lastDepth, listed, Balances, Rising}
-use Rattle.balance.specs.Exact.{exactOver, common, exactImbalance, exactMoment, ClearlyAbove, ClearlyBelow}
+use Rattle.balance.specs.Exact.{exactOver, SameOver, common, exactImbalance, exactMoment, ClearlyAbove, ClearlyBelow}
 use Rattle.balance.specs.Answers.{listRefusal}
 use Rattle.balance.proofs.Listed.{list-only, list-all, list-rising, list-empty, empty-list}
 use Rattle.balance.proofs.Signs.{falls, rises, kind-one, kind-two}
@@ -68,9 +68,6 @@ moment-close s x ok from = omega (arith, moment-within (accepted s ok) from .wit
 -- they have a denominator, and over it each stress is the fraction that it is
 pub common-positive : (s : Section) (x : ℕ) → sectionRefusal s ≡ 0 → 1 ≤ x → 0 < common s x
 common-positive s x ok from = Rounded.common-positive (accepted s ok) from
-
-abbrev pub SameOver : ℕ → Stress → Type 0
-SameOver C t = pos (t .den) *ℤ exactOver C t ≡ pos C *ℤ signed (t .pulls) (t .num)
 
 signed-scale : (d n : ℕ) (pulls : Bool) → pos d *ℤ signed pulls n ≡ signed pulls (d * n)
 signed-scale d n true = mul-neg (pos d) (pos n)

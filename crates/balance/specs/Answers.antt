@@ -20,22 +20,26 @@ gridRefusal s x = firstOf (sectionRefusal s) (line (within 1 (lastDepth s) x) 18
 abbrev pub answered : ℤ → Amount
 answered amount = record { refusal = 0; amount = amount }
 
-abbrev pub refused : ℕ → Amount
-refused number = record { refusal = number; amount = pos 0 }
+abbrev pub noAmount : ℕ → Amount
+noAmount number = record { refusal = number; amount = pos 0 }
 
 unfoldable pub imbalanceAnswer : Section → ℕ → Amount
-imbalanceAnswer s x = unlessRefused (gridRefusal s x) (answered (imbalance s x)) refused
+imbalanceAnswer s x = unlessRefused (gridRefusal s x) (answered (imbalance s x)) noAmount
 
 unfoldable pub momentAnswer : Section → ℕ → Amount
-momentAnswer s x = unlessRefused (gridRefusal s x) (answered (moment s x)) refused
+momentAnswer s x = unlessRefused (gridRefusal s x) (answered (moment s x)) noAmount
 
 -- ---- the list, into a row of so many words: 7 to 13, then 14 where there is no depth to list, then 15 where the row is shorter than three words a depth
 unfoldable pub listRefusal : Section → ℕ → ℕ
 listRefusal s room = firstOf (sectionRefusal s) (line (ltb 0 (length (listed s))) 14 (line (leb (3 * length (listed s)) room) 15 0))
 
+-- a section or a record that is refused has no list
+abbrev pub unlisted : ℕ → Listing
+unlisted number = record { refusal = number; count = 0 }
+
 -- the number of listed depths, under 15 too
-abbrev pub listAnswer : Section → ℕ → Listing
-listAnswer s room = record { refusal = listRefusal s room; count = cond (eqb (sectionRefusal s) 0) (length (listed s)) 0 }
+unfoldable pub listAnswer : Section → ℕ → Listing
+listAnswer s room = unlessRefused (sectionRefusal s) (record { refusal = listRefusal s room; count = length (listed s) }) unlisted
 
 -- the row afterwards: the words after the list stay, and on any refusal all stay
 unfoldable pub rowAfter : Section → List ℤ → List ℤ

@@ -5,7 +5,6 @@ use mathlib.Core.Bool.{Bool, cond, _&&_, _||_}
 use mathlib.Core.List.{List, [], _∷_, _++_}
 use lib.Dec.{ltb, eqb}
 use lib.IntN.{ℤ, pos, natAbs}
-use lib.ListN.{getD}
 use lib.Signed.{ltZ}
 use Rattle.section.specs.declared.Section.{Section}
 use Rattle.balance.specs.Forces.{imbalance, moment}
@@ -59,7 +58,3 @@ pub record Balances (s : Section) (e : Entry) : Type 0 where
 abbrev pub Rising : ℕ → List Entry → Type 0
 Rising low [] = Unit
 Rising low (e ∷ es) = (low < e .depth) × Rising (e .depth) es
-
--- what the code keeps: the imbalances at depths 1 to n
-abbrev pub Kept : Section → ℕ → List ℤ → Type 0
-Kept s n kept = (i : ℕ) → i < n → getD kept i (pos 0) ≡ imbalance s (i + 1)

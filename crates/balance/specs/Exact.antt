@@ -1,5 +1,6 @@
 -- Demand 3: the exact sums, with the same whole numbers of the law but unrounded stresses, all strips and bars of one depth over a common denominator.
 use Prim.Native.Nat.{ℕ, _*_, _/_}
+use mathlib.Core.Path.{_≡_}
 use lib.IntN.{ℤ, pos, negℤ, _-ℤ_, _*ℤ_}
 use lib.Signed.{_≤ℤ_}
 use Rattle.arith.specs.Sums.{prodN}
@@ -22,6 +23,10 @@ commonOf l s x = prodN (s .h) (stripDen l s x) * prodN (s .count) (barDen l s x)
 -- the numerator of a stress over a denominator that its own divides
 unfoldable pub exactOver : ℕ → Stress → ℤ
 exactOver common t = signed (t .pulls) (t .num * (common / t .den))
+
+-- over it the stress is the fraction that it is, sign included: den times the one numerator is `common` times the other
+abbrev pub SameOver : ℕ → Stress → Type 0
+SameOver common t = pos (t .den) *ℤ exactOver common t ≡ pos common *ℤ signed (t .pulls) (t .num)
 
 -- of a section
 abbrev pub common : Section → ℕ → ℕ

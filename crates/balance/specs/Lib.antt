@@ -2,3 +2,4 @@ pub mod Forces
 pub mod Depths
 pub mod Exact
 pub mod Answers
+pub mod Code

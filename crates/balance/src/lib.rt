@@ -1,4 +1,5 @@
-// Where the forces of a section balance: the imbalance and the moment at a depth, and the list of every depth (document 01, 'Strains, strips and balance').
+// Where the forces of a section balance: the imbalance and the moment at a depth, and the list of every depth (document 01, 'Strains, strips and
+// balance').
 ghost use mathlib.Core.Path.{_≡_};
 ghost use mathlib.Core.List.{_++_};
 ghost use Prim.Native.Nat.{_+_, _*_, _-_, _≤_, _<_};
@@ -9,9 +10,10 @@ ghost use Rattle.section.specs.Accepted.{Accepted};
 ghost use Rattle.law.specs.Law.{lawOf};
 ghost use Rattle.law.specs.Stress.{rounded};
 ghost use Rattle.strips.specs.Strips.{scaleOf};
-ghost use Rattle.balance.specs.Forces.{strainScale, barAt, barForce, barMoment, stripForce, stripMoment, imbalance, moment};
-ghost use Rattle.balance.specs.Depths.{lastDepth, opposite, kindAt, Kept, listed, words};
-ghost use Rattle.balance.specs.Answers.{gridRefusal, refused, imbalanceAnswer, momentAnswer, listAnswer, rowAfter};
+ghost use Rattle.balance.specs.Forces.{strainScale, barAt, stripForce, stripMoment, imbalance, moment};
+ghost use Rattle.balance.specs.Depths.{lastDepth, opposite, kindAt, listed, words};
+ghost use Rattle.balance.specs.Code.{mostForce, mostMoment, BarSums, Kept};
+ghost use Rattle.balance.specs.Answers.{gridRefusal, noAmount, imbalanceAnswer, momentAnswer, listAnswer, rowAfter};
 use law::Law;
 use section::Section;
 use strips::Axis;
@@ -74,22 +76,22 @@ fn bar(law: Law, axis: Axis, depth: u16) -> i64
 
 fn force(width: u16, stress: i64) -> i64
     requires { ⌜ natAbs stress ≤ 521739 ⌝ }
-    ensures { λ r. ⌜ (r ≡ pos width *ℤ stress) × (natAbs r ≤ 65535 * 521739) ⌝ }
+    ensures { λ r. ⌜ (r ≡ pos width *ℤ stress) × (natAbs r ≤ mostForce) ⌝ }
 {
     width as i64 * stress
 }
 
 // A force times twice its distance above mid-height.
 fn turned(h: u16, position: u32, force: i64) -> i64
-    requires { ⌜ (h ≤ 1000) × (position ≤ 2 * h) × (natAbs force ≤ 65535 * 521739) ⌝ }
-    ensures { λ r. ⌜ (r ≡ (pos h -ℤ pos position) *ℤ force) × (natAbs r ≤ 1000 * (65535 * 521739)) ⌝ }
+    requires { ⌜ (h ≤ 1000) × (position ≤ 2 * h) × (natAbs force ≤ mostForce) ⌝ }
+    ensures { λ r. ⌜ (r ≡ (pos h -ℤ pos position) *ℤ force) × (natAbs r ≤ mostMoment) ⌝ }
 {
     (h as i64 - position as i64) * force
 }
 
 fn bars(section: Section, law: Law, axis: Axis) -> Sums
     requires { ⌜ (Accepted section) × (law ≡ lawOf section) × (scaleOf axis ≡ strainScale section (axis .x)) ⌝ }
-    ensures { λ r. ⌜ (r .force ≡ sumZ (section .count) (barForce rounded (lawOf section) section (axis .x))) × (natAbs (r .force) ≤ 65535 * 521739 * 8) × (r .moment ≡ sumZ (section .count) (barMoment rounded (lawOf section) section (axis .x))) × (natAbs (r .moment) ≤ 1000 * (65535 * 521739) * 8) ⌝ }
+    ensures { λ r. ⌜ BarSums section (axis .x) (r .force) (r .moment) ⌝ }
 {
     let m = section.count as usize;
     let h = section.h;
@@ -109,7 +111,7 @@ fn bars(section: Section, law: Law, axis: Axis) -> Sums
 
 fn strips_moment(section: Section, law: Law, axis: Axis) -> i64
     requires { ⌜ (Accepted section) × (law ≡ lawOf section) × (scaleOf axis ≡ strainScale section (axis .x)) ⌝ }
-    ensures { λ r. ⌜ (r ≡ sumZ (section .h) (stripMoment rounded (lawOf section) section (axis .x))) × (natAbs r ≤ 1000 * (65535 * 521739) * 1000) ⌝ }
+    ensures { λ r. ⌜ (r ≡ sumZ (section .h) (stripMoment rounded (lawOf section) section (axis .x))) × (natAbs r ≤ mostMoment * 1000) ⌝ }
 {
     let h = section.h;
     let mut moment: i64 = 0;
@@ -165,7 +167,7 @@ fn grid_refusal(section: Section, x: u32) -> u32
 impl Amount {
     // A refusal's number beside zero.
     pub fn refused(number: u32) -> Amount
-        ensures { λ r. ⌜ r ≡ refused number ⌝ }
+        ensures { λ r. ⌜ r ≡ noAmount number ⌝ }
     {
         Amount {
             refusal: number,
@@ -210,6 +212,7 @@ fn opposite(a: i64, b: i64) -> bool
     ((a < 0) & (0 < b)) | ((0 < a) & (b < 0))
 }
 
+// In a function of its own, so that no other proof carries a thousand zeros.
 fn no_imbalances() -> [i64; 1000]
     ensures { λ r. ⌜ r ≡ replicate 1000 (pos 0) ⌝ }
 {

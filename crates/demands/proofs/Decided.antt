@@ -20,6 +20,20 @@ use Rattle.drawn.proofs.Drawn.refused.Kinds as Refused
 use Rattle.drawn.proofs.Drawn.refused.Reads as RefusedReads
 use Rattle.drawn.proofs.draw.Kinds as Draw
 use Rattle.drawn.proofs.draw.Reads as DrawReads
+use Rattle.strips.proofs.strip.Kinds as Strip
+use Rattle.strips.proofs.strip.Reads as StripReads
+use Rattle.strips.proofs.compressed.Kinds as Compressed
+use Rattle.strips.proofs.compressed.Reads as CompressedReads
+use Rattle.strips.proofs.stretched.Kinds as Stretched
+use Rattle.strips.proofs.stretched.Reads as StretchedReads
+use Rattle.balance.proofs.Amount.refused.Kinds as AmountRefused
+use Rattle.balance.proofs.Amount.refused.Reads as AmountRefusedReads
+use Rattle.balance.proofs.imbalance.Kinds as Imbalance
+use Rattle.balance.proofs.imbalance.Reads as ImbalanceReads
+use Rattle.balance.proofs.moment.Kinds as Moment
+use Rattle.balance.proofs.moment.Reads as MomentReads
+use Rattle.balance.proofs.depths.Kinds as Depths
+use Rattle.balance.proofs.depths.Reads as DepthsReads
 use Rattle.book.proofs.section_of.Kinds as SectionOf
 use Rattle.book.proofs.section_of.Reads as SectionOfReads
 use Rattle.class.proofs.class.Kinds as Class
@@ -28,7 +42,13 @@ use Rattle.panel.proofs.fw_class.Kinds as FwClass
 use Rattle.panel.proofs.fw_class.Reads as FwClassReads
 use Rattle.panel.proofs.fw_draw.Kinds as FwDraw
 use Rattle.panel.proofs.fw_draw.Reads as FwDrawReads
-use Rattle.demands.specs.Decided.{Decided}
+use Rattle.panel.proofs.fw_imbalance.Kinds as FwImbalance
+use Rattle.panel.proofs.fw_imbalance.Reads as FwImbalanceReads
+use Rattle.panel.proofs.fw_moment.Kinds as FwMoment
+use Rattle.panel.proofs.fw_moment.Reads as FwMomentReads
+use Rattle.panel.proofs.fw_depths.Kinds as FwDepths
+use Rattle.panel.proofs.fw_depths.Reads as FwDepthsReads
+use Rattle.demands.specs.Decided.{Decided, RowDecided}
 
 pub refusal-decided : Decided Refusal.ps Refusal.r RefusalReads.Learnt
 refusal-decided κs a x y e f p q = p ∙ sym q
@@ -60,6 +80,30 @@ refused-decided κs a x y e f p q = p ∙ sym q
 pub draw-decided : Decided Draw.ps Draw.r DrawReads.Learnt
 draw-decided κs a x y e f p q = p ∙ sym q
 
+pub strip-decided : Decided Strip.ps Strip.r StripReads.Learnt
+strip-decided κs a x y e f p q = p ∙ sym q
+
+pub compressed-decided : Decided Compressed.ps Compressed.r CompressedReads.Learnt
+compressed-decided κs a x y e f p q = p ∙ sym q
+
+pub stretched-decided : Decided Stretched.ps Stretched.r StretchedReads.Learnt
+stretched-decided κs a x y e f p q = p ∙ sym q
+
+pub amount-refused-decided : Decided AmountRefused.ps AmountRefused.r AmountRefusedReads.Learnt
+amount-refused-decided κs a x y e f p q = p ∙ sym q
+
+pub imbalance-decided : Decided Imbalance.ps Imbalance.r ImbalanceReads.Learnt
+imbalance-decided κs a x y e f p q = p ∙ sym q
+
+pub moment-decided : Decided Moment.ps Moment.r MomentReads.Learnt
+moment-decided κs a x y e f p q = p ∙ sym q
+
+pub depths-decided : Decided Depths.ps Depths.r DepthsReads.Learnt
+depths-decided κs a x y e f p q = p .0 ∙ sym (q .0)
+
+pub depths-row-decided : RowDecided Depths.ps Depths.r DepthsReads.Learnt (λ κs e. e .1 .0 .now)
+depths-row-decided κs a x y e f p q = p .1 ∙ sym (q .1)
+
 pub section-of-decided : Decided SectionOf.ps SectionOf.r SectionOfReads.Learnt
 section-of-decided κs a x y e f p q = p ∙ sym q
 
@@ -71,3 +115,15 @@ fw-class-decided κs a x y e f p q = p ∙ sym q
 
 pub fw-draw-decided : Decided FwDraw.ps FwDraw.r FwDrawReads.Learnt
 fw-draw-decided κs a x y e f p q = p ∙ sym q
+
+pub fw-imbalance-decided : Decided FwImbalance.ps FwImbalance.r FwImbalanceReads.Learnt
+fw-imbalance-decided κs a x y e f p q = p ∙ sym q
+
+pub fw-moment-decided : Decided FwMoment.ps FwMoment.r FwMomentReads.Learnt
+fw-moment-decided κs a x y e f p q = p ∙ sym q
+
+pub fw-depths-decided : Decided FwDepths.ps FwDepths.r FwDepthsReads.Learnt
+fw-depths-decided κs a x y e f p q = p .0 ∙ sym (q .0)
+
+pub fw-depths-row-decided : RowDecided FwDepths.ps FwDepths.r FwDepthsReads.Learnt (λ κs e. e .1 .0 .now)
+fw-depths-row-decided κs a x y e f p q = p .1 ∙ sym (q .1)

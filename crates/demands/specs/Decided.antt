@@ -2,6 +2,7 @@
 use Prim.Native.Nat.{ℕ}
 use mathlib.Core.Path.{_≡_}
 use mathlib.Core.List.{List}
+use lib.IntN.{ℤ}
 use contract.Lifetimes.{Lfts}
 use denote.Triple.Clauses.{AtExit}
 use borrow.Fn.Kinds.{PK, RK, Dens, resT, endedOf, Out}
@@ -11,3 +12,8 @@ use borrow.Fn.Kinds.{PK, RK, Dens, resT, endedOf, Out}
 abbrev pub Decided : {n : ℕ} (ps : List (PK n)) (r : RK n) → Out n ps r → Type 0
 Decided {n} ps r told =
     (κs : Lfts n) (a : Dens κs ps) (x y : resT r κs .Denot) (e f : AtExit (endedOf n ps r) κs) → told κs a x e → told κs a y f → x ≡ y
+
+-- and so are the rows that they leave, where the function is lent one; `row` finds it among what was lent
+abbrev pub RowDecided : {n : ℕ} (ps : List (PK n)) (r : RK n) → Out n ps r → ((κs : Lfts n) → AtExit (endedOf n ps r) κs → List ℤ) → Type 0
+RowDecided {n} ps r told row =
+    (κs : Lfts n) (a : Dens κs ps) (x y : resT r κs .Denot) (e f : AtExit (endedOf n ps r) κs) → told κs a x e → told κs a y f → row κs e ≡ row κs f

@@ -1,2 +1,3 @@
 pub mod Figures
 pub mod Decided
+pub mod Demand3

@@ -6,6 +6,9 @@ use Rattle.arith.specs.Answers.{unlessRefused}
 use Rattle.section.specs.declared.Section.{Section}
 use Rattle.drawn.specs.declared.Drawn.{Drawn}
 use Rattle.drawn.specs.Drawn.{refused, drawnAnswer}
+use Rattle.balance.specs.declared.Amount.{Amount}
+use Rattle.balance.specs.declared.Listing.{Listing}
+use Rattle.balance.specs.Answers.{noAmount, imbalanceAnswer, momentAnswer, unlisted, listAnswer, rowAfter}
 use Rattle.book.specs.Record.{recordRefusal, sectionIn}
 
 abbrev pub ofRecord : {X : Type 0} → List ℕ → (Section → X) → (ℕ → X) → X
@@ -13,3 +16,16 @@ ofRecord r answered refused = unlessRefused (recordRefusal r) (answered (section
 
 unfoldable pub drawnOf : List ℕ → ℤ → Drawn
 drawnOf r e = ofRecord r (λ s. drawnAnswer s e) refused
+
+unfoldable pub imbalanceOf : List ℕ → ℕ → Amount
+imbalanceOf r x = ofRecord r (λ s. imbalanceAnswer s x) noAmount
+
+unfoldable pub momentOf : List ℕ → ℕ → Amount
+momentOf r x = ofRecord r (λ s. momentAnswer s x) noAmount
+
+unfoldable pub listOf : List ℕ → ℕ → Listing
+listOf r room = ofRecord r (λ s. listAnswer s room) unlisted
+
+-- the row afterwards
+unfoldable pub rowOf : List ℕ → List ℤ → List ℤ
+rowOf r row = ofRecord r (λ s. rowAfter s row) (λ number. row)

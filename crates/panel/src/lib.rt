@@ -1,7 +1,10 @@
 // The C face: what include/fordwhistle.h declares. Each function hands on to the crate that answers.
 ghost use mathlib.Core.Path.{_≡_};
 ghost use Rattle.class.specs.Class.{classAnswer};
-ghost use Rattle.panel.specs.Face.{drawnOf};
+ghost use lib.ListN.{length};
+ghost use Rattle.panel.specs.Face.{drawnOf, imbalanceOf, momentOf, listOf, rowOf};
+use balance::Amount;
+use balance::Listing;
 use class::ClassAnswer;
 use drawn::Drawn;
 
@@ -23,4 +26,43 @@ pub extern "C" fn fw_draw(part: &[u8], strain: i32) -> Drawn
         return Drawn::refused(answer.refusal);
     }
     drawn::draw(answer.section, strain)
+}
+
+// The imbalance of a record's section with the neutral axis at depth x, in mN; or 6, 7 to 13 or 18, and zero.
+#[no_mangle]
+pub extern "C" fn fw_imbalance(part: &[u8], x: u32) -> Amount
+    ensures { λ r. ⌜ r ≡ imbalanceOf (now (part .entry)) x ⌝ }
+{
+    let answer = book::section_of(part);
+    if answer.refusal != 0 {
+        return Amount::refused(answer.refusal);
+    }
+    balance::imbalance(answer.section, x)
+}
+
+// Its moment about mid-height, in mN half-mm; refused likewise.
+#[no_mangle]
+pub extern "C" fn fw_moment(part: &[u8], x: u32) -> Amount
+    ensures { λ r. ⌜ r ≡ momentOf (now (part .entry)) x ⌝ }
+{
+    let answer = book::section_of(part);
+    if answer.refusal != 0 {
+        return Amount::refused(answer.refusal);
+    }
+    balance::moment(answer.section, x)
+}
+
+// Every depth where the forces of a record's section balance, into a lent row; or 6, 7 to 13, 14 or 15, and the row as it was.
+#[no_mangle]
+pub extern "C" fn fw_depths(part: &[u8], row: &mut [i64]) -> Listing
+    ensures { λ r. ⌜ (r ≡ listOf (now (part .entry)) (length (now (row .entry)))) × (now (row .exit) ≡ rowOf (now (part .entry)) (now (row .entry))) ⌝ }
+{
+    let answer = book::section_of(part);
+    if answer.refusal != 0 {
+        return Listing {
+            refusal: answer.refusal,
+            count: 0,
+        };
+    }
+    balance::depths(answer.section, row)
 }

@@ -1,6 +1,6 @@
 -- What the sizes of strips say of their stresses, and how large a run's sum gets. Assumes nothing.
-use Prim.Native.Nat.{ℕ, zero, suc, _+_, _*_, _-_, _≤_, _<_}
-use mathlib.Core.Path.{_≡_, refl, sym, ap, _∙_}
+use Prim.Native.Nat.{ℕ, zero, suc, _+_, _*_, _-_, _≤_}
+use mathlib.Core.Path.{_≡_, refl, sym, ap}
 use mathlib.Core.Bool.{Bool, true, false, cond}
 use native.Mathlib.Nat as NatL
 use native.Mathlib.Omega.{arith}
@@ -11,9 +11,10 @@ use Rattle.arith.proofs.Signed.{abs-neg}
 use Rattle.law.specs.declared.Law.{Law}
 use Rattle.law.specs.Stress.{Stress, signed, size, rounded, flat, ramp, parabola, compressed, stretched, concrete}
 use Rattle.law.specs.Sizes.{small, sizeIn}
+use Rattle.law.proofs.Sizes.{concrete-none}
 use Rattle.law.proofs.Bounds.{size-in-most}
 use Rattle.strips.specs.declared.Axis.{Axis}
-use Rattle.strips.specs.Strips.{stripAs, strip, scaleOf, stripSize, runOf}
+use Rattle.strips.specs.Strips.{reach, stripAs, strip, scaleOf, stripSize, runOf}
 
 -- ---- concrete pulls where it is stretched
 same-side : (c p : Bool) (t u : Stress) → t .pulls ≡ p → u .pulls ≡ p → (cond c t u) .pulls ≡ p
@@ -32,6 +33,15 @@ concrete-pulls l false p q = same-side (leb p (2000 * q)) false (parabola (l .fc
 pub strip-rounded : (l : Law) (a : Axis) (i : ℕ) (pulls : Bool) → small l ≡ true → leb (a .x) i ≡ pulls → signed pulls (stripSize l pulls a i) ≡ rounded (strip l (scaleOf a) (a .x) i)
 unfolding rounded strip sizeIn
 strip-rounded l a i pulls e s = rw (e, s) (ap (λ p. signed p (size (stripAs l pulls (scaleOf a) (a .x) i))) (sym (concrete-pulls l pulls _ _)))
+
+-- on the other side it has no strain, and so no stress
+pub strip-none : (l : Law) (a : Axis) (i : ℕ) (pulls : Bool) → reach pulls (a .x) i ≡ 0 → stripSize l pulls a i ≡ 0
+unfolding sizeIn
+strip-none l a i pulls e = rw (e, NatL.mul-zero (500 * a .unit)) (pick (small l))
+  where
+    pick : (c : Bool) → cond c (size (concrete l pulls 0 (a .over))) 0 ≡ 0
+    pick true = concrete-none l pulls 0 (a .over) refl
+    pick false = refl
 
 -- ---- how large they get
 size-most : (l : Law) (pulls : Bool) (a : Axis) (i : ℕ) → stripSize l pulls a i ≤ 65536

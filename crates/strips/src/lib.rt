@@ -2,7 +2,7 @@
 // 'Strains, strips and balance').
 ghost use mathlib.Core.Path.{_≡_};
 ghost use mathlib.Core.Bool.{true, false};
-ghost use Prim.Native.Nat.{_-_, _*_, _≤_, _<_};
+ghost use Prim.Native.Nat.{ℕ, _+_, _-_, _*_, _≤_, _<_};
 ghost use lib.Dec.{leb};
 ghost use Rattle.arith.specs.Sums.{sumN, after};
 ghost use Rattle.law.specs.Stress.{signed};
@@ -16,32 +16,38 @@ pub struct Axis {
     pub over: u16,
 }
 
-// a - b, or 0 where b is more.
-fn less(a: u32, b: u32) -> u32
-    ensures { λ r. ⌜ r ≡ a - b ⌝ }
+fn least(a: u16, b: u16) -> u16
+    ensures { λ r. ⌜ r ≡ a - (a - b) ⌝ }
 {
-    if a < b { 0 } else { a - b }
+    if a < b { a } else { b }
 }
 
+fn most(a: u16, b: u16) -> u16
+    ensures { λ r. ⌜ r ≡ a + (b - a) ⌝ }
+{
+    if a < b { b } else { a }
+}
+
+// How far a strip's middle lies from the axis, on the strip's own side.
 fn reach(pulls: bool, x: u16, i: u16) -> u32
+    requires { ⌜ leb x i ≡ pulls ⌝ }
     ensures { λ r. ⌜ (r ≡ reach pulls x i) × (r ≤ 131071) ⌝ }
 {
     let axis = 2 * (x as u32);
     let middle = 2 * (i as u32) + 1;
-    if pulls {
-        less(middle, axis)
-    } else {
-        less(axis, middle)
-    }
+    if pulls { middle - axis } else { axis - middle }
 }
 
 fn size(law: Law, pulls: bool, axis: Axis, i: u16) -> u64
+    requires { ⌜ leb (axis .x) i ≡ pulls ⌝ }
     ensures { λ r. ⌜ (r ≡ stripSize law pulls axis i) × (r < 65536) ⌝ }
 {
     law.concrete_size(pulls, axis.unit as u32 * reach(pulls, axis.x, i), axis.over)
 }
 
+// The sum over a run of strips that lie on one side.
 fn total(law: Law, pulls: bool, axis: Axis, from: u16, to: u16) -> u64
+    requires { ⌜ ((i : ℕ) → from ≤ i → i < to → leb (axis .x) i ≡ pulls) ⌝ }
     ensures { λ r. ⌜ (r ≡ sumN (to - from) (after from (stripSize law pulls axis))) × (r ≤ 65536 * 65536) ⌝ }
 {
     let mut sum: u64 = 0;
@@ -49,6 +55,19 @@ fn total(law: Law, pulls: bool, axis: Axis, from: u16, to: u16) -> u64
         sum = sum + size(law, pulls, axis, i);
     }
     sum
+}
+
+// A number of strips at the top that are compressed by more than 2000, and so all bear fcd.
+fn level(axis: Axis) -> u16
+    ensures { λ r. ⌜ (r ≤ axis .x) × ((i : ℕ) → i < r → 4 * axis .over < axis .unit * reach false (axis .x) i) ⌝ }
+{
+    let unit = axis.unit as u32;
+    let face = 2 * unit * (axis.x as u32);
+    let bound = 4 * (axis.over as u32);
+    if (unit == 0) | (face <= bound) {
+        return 0;
+    }
+    ((face - bound) / (2 * unit)) as u16
 }
 
 // The stress of a strip, rounded, with its sign.
@@ -62,16 +81,22 @@ pub fn strip(law: Law, axis: Axis, i: u16) -> i64
     }
 }
 
-// The sum over a run of strips that are compressed, `to` not among them.
+// The sum over a run of strips as compressed concrete, `to` not among them. Those that are level are not looked at one by one.
 pub fn compressed(law: Law, axis: Axis, from: u16, to: u16) -> i64
     ensures { λ r. ⌜ r ≡ runOf law false axis from to ⌝ }
 {
-    total(law, false, axis, from, to) as i64
+    let end = least(to, axis.x);
+    if end <= from {
+        return 0;
+    }
+    let start = most(from, least(level(axis), end));
+    let flat = size(law, false, axis, from) * ((start - from) as u64);
+    (flat + total(law, false, axis, start, end)) as i64
 }
 
-// The same of strips that are stretched, and so not above zero.
+// The same as stretched concrete, and so not above zero.
 pub fn stretched(law: Law, axis: Axis, from: u16, to: u16) -> i64
     ensures { λ r. ⌜ r ≡ runOf law true axis from to ⌝ }
 {
-    -(total(law, true, axis, from, to) as i64)
+    -(total(law, true, axis, most(from, axis.x), to) as i64)
 }

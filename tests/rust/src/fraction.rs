@@ -1,4 +1,7 @@
 //! Exact fractions, and doubles taken apart into whole numbers: nothing here is worked out by a float's operation.
+use std::cmp::Ordering;
+use std::iter::Sum;
+use std::ops::Add;
 
 #[derive(Debug, Clone, Copy)]
 pub struct Fraction {
@@ -24,6 +27,14 @@ fn digits(n: i128) -> i32 {
     n.ilog2() as i32 + 1
 }
 
+/// The greatest common divisor of two numbers above 0.
+fn common(a: i128, b: i128) -> i128 {
+    match a % b {
+        0 => b,
+        rest => common(b, rest),
+    }
+}
+
 /// n times a power of two. It panics where that is too large, as a shift would not.
 fn scaled(n: i128, power: i32) -> i128 {
     n * 2i128.pow(u32::try_from(power).unwrap())
@@ -42,6 +53,20 @@ impl Fraction {
             (whole, exponent) if exponent < 0 => Fraction::new(whole, scaled(1, -exponent)),
             (whole, exponent) => Fraction::new(scaled(whole, exponent), 1),
         }
+    }
+
+    pub fn times(self, whole: i128) -> Fraction {
+        Fraction::new(self.num * whole, self.den)
+    }
+
+    /// How far it is from a whole number.
+    pub fn apart(self, whole: i128) -> Fraction {
+        Fraction::new((self.num - whole * self.den).abs(), self.den)
+    }
+
+    /// The whole number next to it, towards zero.
+    pub fn towards_zero(self) -> i128 {
+        self.num / self.den
     }
 
     pub fn is_whole(self) -> bool {
@@ -100,5 +125,34 @@ impl Fraction {
             true => apart == 0,
             false => 1_000_000 * apart <= self.den * held.den,
         }
+    }
+}
+
+/// Over the least common denominator, so that a sum of many with few denominators stays small.
+impl Add for Fraction {
+    type Output = Fraction;
+
+    fn add(self, other: Fraction) -> Fraction {
+        let shared = common(self.den, other.den);
+        let num = self.num * (other.den / shared) + other.num * (self.den / shared);
+        Fraction::new(num, self.den / shared * other.den)
+    }
+}
+
+impl Sum for Fraction {
+    fn sum<I: Iterator<Item = Fraction>>(fractions: I) -> Fraction {
+        fractions.fold(Fraction::new(0, 1), Fraction::add)
+    }
+}
+
+impl PartialEq<i128> for Fraction {
+    fn eq(&self, whole: &i128) -> bool {
+        self.partial_cmp(whole) == Some(Ordering::Equal)
+    }
+}
+
+impl PartialOrd<i128> for Fraction {
+    fn partial_cmp(&self, whole: &i128) -> Option<Ordering> {
+        self.num.partial_cmp(&(whole * self.den))
     }
 }

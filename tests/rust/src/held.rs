@@ -1,10 +1,22 @@
 //! Cases for `tests/c/held.c`, the program that calls the C face and compares. It is a process of its own since the static library is
 //! x86-64 code and these tests are code for the machine at hand.
-use crate::rules::{Class, Drawn};
+use crate::rules::{Amount, Class, Drawn, Listed, Sums};
 use std::io::{BufWriter, Write};
 use std::process::{Child, ChildStdin, Command, Stdio};
 
 const PROGRAM: &str = concat!(env!("CARGO_MANIFEST_DIR"), "/../../target/tests/held");
+
+fn length<T>(of: &[T]) -> [u8; 2] {
+    u16::try_from(of.len()).unwrap().to_le_bytes()
+}
+
+/// How a case of a function begins that takes a record.
+fn of_record(function: u8, record: &[u8]) -> Vec<u8> {
+    let mut case = vec![function];
+    case.extend(length(record));
+    case.extend(record);
+    case
+}
 
 pub struct Held {
     program: Child,
@@ -41,14 +53,38 @@ impl Held {
     /// That `fw_draw` gives this point, bit for bit.
     pub fn draw(&mut self, record: &[u8], strain: i32, drawn: Drawn) {
         let (refusal, drawn_strain, stress) = drawn.bits();
-        let len = u16::try_from(record.len()).unwrap();
-        let mut case = vec![b'd'];
-        case.extend(len.to_le_bytes());
-        case.extend(record);
+        let mut case = of_record(b'd', record);
         case.extend(strain.to_le_bytes());
         case.extend(refusal.to_le_bytes());
         case.extend(drawn_strain.to_le_bytes());
         case.extend(stress.to_le_bytes());
+        self.case(&case);
+    }
+
+    /// That `fw_imbalance` and `fw_moment` give these amounts.
+    pub fn amounts(&mut self, record: &[u8], x: u32, amounts: Sums<Amount>) {
+        self.amount(b'i', record, x, amounts.imbalance);
+        self.amount(b'm', record, x, amounts.moment);
+    }
+
+    fn amount(&mut self, function: u8, record: &[u8], x: u32, answer: Amount) {
+        let mut case = of_record(function, record);
+        case.extend(x.to_le_bytes());
+        case.extend(answer.refusal.to_le_bytes());
+        case.extend(answer.amount.to_le_bytes());
+        self.case(&case);
+    }
+
+    /// That `fw_depths` gives this, and makes of the row `before` the row `after`.
+    pub fn depths(&mut self, record: &[u8], before: &[i64], listed: Listed, after: &[i64]) {
+        assert_eq!(before.len(), after.len());
+        let mut case = of_record(b'l', record);
+        case.extend(length(after));
+        for word in before.iter().chain(after) {
+            case.extend(word.to_le_bytes());
+        }
+        case.extend(listed.refusal.to_le_bytes());
+        case.extend(listed.count.to_le_bytes());
         self.case(&case);
     }
 

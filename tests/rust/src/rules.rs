@@ -1,10 +1,12 @@
 //! Document 01's rules, a file for each chapter. Tables are searched, points interpolated and fractions kept exact where the proved code
 //! compares, branches and divides step by step.
+mod balance;
 mod class;
 mod drawn;
 mod law;
 mod section;
 
+pub use balance::{amounts, area, exact, list_of, rounded, write, Amount, List, Listed, Sums};
 pub use class::{class, Class, LETTERS, STEPS};
 pub use drawn::{draw, stress_drawn, Drawn, Point};
 pub use law::{Law, TABLE};

@@ -1,6 +1,6 @@
 //! Random sections and records, for the tests of what is asked of a record.
 use crate::random::Random;
-use crate::rules::{Layer, Section, TABLE};
+use crate::rules::{self, Layer, Section, TABLE};
 use std::collections::BTreeSet;
 
 /// A number of a range, one time in four an end of it: there a wrong comparison shows.
@@ -26,6 +26,11 @@ fn layers(random: &mut Random, h: u16) -> Vec<Layer> {
 /// A section that is accepted.
 pub fn accepted(random: &mut Random) -> Section {
     let h = number(random, 50, 1000);
+    accepted_of(random, h)
+}
+
+/// One of this height.
+pub fn accepted_of(random: &mut Random, h: u16) -> Section {
     let load = random.within(-10_000_000..=10_000_000);
     let asw = number(random, 0, u16::MAX);
     Section {
@@ -40,6 +45,51 @@ pub fn accepted(random: &mut Random) -> Section {
         spacing: number(random, u16::from(asw != 0), u16::MAX),
         layers: layers(random, h),
     }
+}
+
+/// What makes the forces of a section balance at a depth, or at several, more often than chance does.
+const BALANCES: [fn(&mut Section, &mut Random); 5] = [
+    |_, _| {},
+    |section, _| section.load = 0,
+    |section, random| balance(section, number(random, 1, section.h)),
+    // Every force is then a whole number of N, so that an imbalance is zero.
+    |section, random| {
+        section.b = random.pick(&[1000, 2000]);
+        set_areas(section, |area| 1000 * (area % 5 + 1));
+        balance(section, number(random, 1, section.h));
+    },
+    // The concrete below light bars is torn at first; it comes back into tension where the neutral axis passes a quarter of their depth.
+    |section, random| {
+        let middle = section.h / 2;
+        section.layers.retain(|layer| layer.depth <= middle);
+        section.layers.push(Layer {
+            depth: middle + 1,
+            area: 1,
+        });
+        set_areas(section, |area| area % 20 + 1);
+        section.feq3 = number(random, 5000, 20_000);
+        balance(section, number(random, middle / 4, middle / 2));
+    },
+];
+
+fn set_areas(section: &mut Section, area: fn(u16) -> u16) {
+    for layer in &mut section.layers {
+        layer.area = area(layer.area);
+    }
+}
+
+/// Puts the load to what the forces at a depth carry, in whole N, or to its limit.
+fn balance(section: &mut Section, x: u16) {
+    section.load = 0;
+    let carried = rules::rounded(section, x).imbalance / 1000;
+    section.load = carried.clamp(-10_000_000, 10_000_000) as i32;
+}
+
+/// An accepted section of this height whose forces often balance.
+pub fn balanced(random: &mut Random, h: u16) -> Section {
+    let mut section = accepted_of(random, h);
+    random.pick(&BALANCES)(&mut section, random);
+    section
 }
 
 /// What makes a section wrong, in the order of the refusals.
@@ -112,9 +162,8 @@ fn set(record: &mut [u8], at: usize, random: &mut Random) {
     }
 }
 
-/// A record with up to three faults and damages, so that their order counts; some do no harm where they fall.
-pub fn damaged(random: &mut Random) -> Vec<u8> {
-    let mut section = accepted(random);
+/// The record of an accepted section with up to three faults and damages, so that their order counts; some do no harm where they fall.
+pub fn damaged(random: &mut Random, mut section: Section) -> Vec<u8> {
     for _ in 0..random.within(0..=3) {
         random.pick(&FAULTS)(&mut section, random);
     }

@@ -29,7 +29,8 @@ fn each_strain(take: Take) {
 fn each_damaged(take: Take) {
     let mut random = Random::new(2);
     for _ in 0..50_000 {
-        let record = sections::damaged(&mut random);
+        let section = sections::accepted(&mut random);
+        let record = sections::damaged(&mut random, section);
         let strain = random.within(-12_000..=5000);
         take(&record, strain);
     }

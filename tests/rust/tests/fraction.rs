@@ -65,3 +65,19 @@ fn where_the_fraction_is_whole_a_drawn_float_equals_it() {
     assert!(three.is_drawn_by(3.0) && !three.is_drawn_by(3f64.next_up()));
     assert!(Fraction::new(0, 5).is_drawn_by(0.0) && !Fraction::new(0, 5).is_drawn_by(1e-9));
 }
+
+#[test]
+fn a_sum_is_exact() {
+    // 1/2 + 1/6 + 1/12 + .. falls short of 1 by the last of 1/2, 1/3, 1/4 ..
+    let sum: Fraction = (1..=30).map(|k| Fraction::new(1, k * (k + 1))).sum();
+    assert!(sum + Fraction::new(1, 31) == 1);
+    assert!(sum + Fraction::new(-1, 31) < 1 && sum + Fraction::new(2, 31) > 1);
+}
+
+#[test]
+fn a_fraction_is_rounded_towards_zero_and_held_to_whole_numbers() {
+    let (above, below) = (Fraction::new(7, 2), Fraction::new(-7, 2));
+    assert_eq!((above.towards_zero(), below.towards_zero()), (3, -3));
+    assert!(below > -4 && below < -3 && below.times(-4) == 14);
+    assert!(below.apart(-3) < 1 && below.apart(-3).times(2) == 1 && below.apart(-5).times(2) == 3);
+}

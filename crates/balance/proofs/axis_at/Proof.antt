@@ -1,9 +1,8 @@
 -- `axis_at`: the two cases of 3.1.1. Assumes nothing.
 use Prim.Native.Nat.{_≤_, _-_}
-use mathlib.Core.Path.{_≡_, refl, ap}
+use mathlib.Core.Path.{refl}
 use native.Mathlib.Omega.{arith}
 use borrow.Author.Needs.{needs}
-use Rattle.law.specs.Law.{limitDepth}
 use Rattle.law.proofs.Ranges.{limit-in}
 use Rattle.balance.proofs.Strains.{steep, gentle}
 use Rattle.balance.proofs.axis_at.Statement.{statement}

@@ -1,11 +1,11 @@
 -- `bar`: the size of the law, with the sign of its side. Assumes nothing.
 use Prim.Native.Nat.{_+_, _*_, _-_, _≤_}
 use mathlib.Core.Path.{_≡_, sym, ap, _∙_}
-use mathlib.Core.Bool.{Bool, true}
+use mathlib.Core.Bool.{true}
 use native.Mathlib.Nat as NatL
 use native.Mathlib.Omega.{arith}
 use lib.Dec.{ltb}
-use lib.IntN.{pos, negℤ}
+use lib.IntN.{pos}
 use borrow.Author.Tests.{lt-ltb, le-ltb}
 use borrow.Author.Needs.{needs}
 use Rattle.arith.proofs.Signed.{read-pos, minus-fits, read-minus, abs-neg}
@@ -19,12 +19,15 @@ use Rattle.balance.proofs.bar.Tie as tie
 
 mul-bar-size-2 : tie.Need-mul-bar-size-2
 mul-bar-size-2 c =
-    record { fits = omega (arith, NatL.mul-le-mul {n₁ = c .before .before .args .axis .unit} {m₁ = 2 * c .apart .result} {n₂ = 255} {m₂ = 131070} (omega arith) (omega (arith, c .apart .ensures .1))) }
+    let unit = c .before .before .args .axis .unit in
+    record { fits = omega (arith, NatL.mul-le-mul {n₁ = unit} {m₁ = 2 * c .apart .result} {n₂ = 255} {m₂ = 131070} (omega arith) (omega (arith, c .apart .ensures .1))) }
 
 most : (c : tie.After-bar-size) → c .bar-size .result ≤ c .before .before .before .args .law .fyd
 most c = rw (c .bar-size .ensures) (bar-most _ true _ _)
 
-stress : (c : tie.After-bar-size) → let a = c .before .before .before .args in signed (ltb (a .axis .x) (a .depth)) (c .bar-size .result) ≡ rounded (barAt (a .law) (scaleOf (a .axis)) (a .axis .x) (a .depth))
+stress : (c : tie.After-bar-size)
+    → let a = c .before .before .before .args in
+    signed (ltb (a .axis .x) (a .depth)) (c .bar-size .result) ≡ rounded (barAt (a .law) (scaleOf (a .axis)) (a .axis .x) (a .depth))
 stress c =
     let a = c .before .before .before .args in
     let strain : 500 * (a .axis .unit * (2 * c .before .apart .result)) ≡ 500 * a .axis .unit * (2 * ((a .axis .x - a .depth) + (a .depth - a .axis .x))) =

@@ -2,9 +2,9 @@
 use Prim.Native.Nat.{ℕ, _*_, _-_, _≤_, _<_}
 use mathlib.Core.Path.{_≡_, ap, _∙_}
 use native.Mathlib.Omega.{arith}
-use lib.IntN.{ℤ, pos, natAbs, _-ℤ_, _*ℤ_}
+use lib.IntN.{ℤ, pos, natAbs, _*ℤ_}
 use mir.Syntax.{w64}
-use mir.Val.{toZ, ofZ}
+use mir.Val.{toZ}
 use borrow.Author.Needs.{needs}
 use Rattle.arith.proofs.Signed.{read}
 use Rattle.arith.proofs.Sums.{Running, running-none, running-fits, running-next, running-all}
@@ -14,14 +14,15 @@ use Rattle.law.specs.Law.{lawOf}
 use Rattle.law.specs.Stress.{rounded}
 use Rattle.law.proofs.Ranges.{law-in}
 use Rattle.balance.specs.Forces.{areaAt, depthAt, lever, barAt, barForce, barMoment}
+use Rattle.balance.specs.Code.{mostForce, mostMoment}
 use Rattle.balance.proofs.bars.Statement.{statement}
 use Rattle.balance.proofs.bars.Tie as tie
 
 abbrev Forces : Section → ℕ → ℕ → ℤ → Type 0
-Forces s x n z = Running (barForce rounded (lawOf s) s x) (65535 * 521739) n z
+Forces s x n z = Running (barForce rounded (lawOf s) s x) mostForce n z
 
 abbrev Moments : Section → ℕ → ℕ → ℤ → Type 0
-Moments s x n z = Running (barMoment rounded (lawOf s) s x) (1000 * (65535 * 521739)) n z
+Moments s x n z = Running (barMoment rounded (lawOf s) s x) mostMoment n z
 
 abbrev Inv-loop : tie.InvT-loop
 Inv-loop law axis section m h sum₀ moment₀ j₀ sum moment j = (j ≤ m) × Forces section (axis .x) j (toZ w64 sum) × Moments section (axis .x) j (toZ w64 moment)
@@ -58,9 +59,13 @@ turned-requires c κs =
     let p = start (c .before) .pre .0 in
     (p .height .1, omega (arith, p .layer (at (c .before)) (omega arith) .inside), rw (read (record { sfits = c .before .force .ok })) (c .before .force .ensures .1))
 
-turned-is : (c : tie.After-turned Inv-loop μ-loop) → c .turned .result ≡ barMoment rounded (lawOf (start (c .before .before) .args .t1)) (start (c .before .before) .args .t1) (start (c .before .before) .args .axis .x) (at (c .before .before))
+turned-is : (c : tie.After-turned Inv-loop μ-loop)
+    → let a = start (c .before .before) .args in c .turned .result ≡ barMoment rounded (lawOf (a .t1)) (a .t1) (a .axis .x) (at (c .before .before))
 unfolding barMoment
-turned-is c = c .turned .ensures .0 ∙ ap (λ z. lever (start (c .before .before) .args .t1) (2 * depthAt (start (c .before .before) .args .t1) (at (c .before .before))) *ℤ z) (read (record { sfits = c .before .before .force .ok }) ∙ force-is (c .before .before))
+turned-is c =
+    let f = c .before .before in
+    let s = start f .args .t1 in
+    c .turned .ensures .0 ∙ ap (λ z. lever s (2 * depthAt s (at f)) *ℤ z) (read (record { sfits = f .force .ok }) ∙ force-is f)
 
 few : (c : tie.After-force Inv-loop μ-loop) → at c < 8
 few c = omega (arith, start c .pre .0 .few)
@@ -80,7 +85,7 @@ returns c =
     let i = c .before .loop .inv in
     let f = running-all (s .count) 8 (i .1) (omega arith) (c .before .before .pre .0 .few) in
     let m = running-all (s .count) 8 (i .2) (omega arith) (c .before .before .pre .0 .few) in
-    (f .0, f .1, m .0, m .1)
+    record { forces = f .0; force-most = f .1; moments = m .0; moment-most = m .1 }
 
 pub bars-spec : {M : Type 1} → statement M
 bars-spec =

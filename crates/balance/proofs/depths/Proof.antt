@@ -30,13 +30,15 @@ returns-3 c =
 write-list-requires : tie.Need-write-list-requires
 write-list-requires c κs =
     let s = c .before .before .before .before .before .before .before .before in
-    (met s .0, met s .1, c .before .before .before .before .before .before .imbalances .ensures, omega (arith, c .before .before .before .before .listed-count .ensures .0, c .before .before .if3 .left))
+    let n = c .before .before .before .before .listed-count in
+    (met s .0, met s .1, c .before .before .before .before .before .before .imbalances .ensures, omega (arith, n .ensures .0, c .before .before .if3 .left))
 
 returns-4 : tie.Need-returns-4
 returns-4 c =
     let n = c .before .before .before .before .before .before .listed-count in
     let s = c .before .before .before .before .before .before .before .before .before .before in
-    let w = lists _ _ (s .before .before .of .ensures) (s .before .before .before .args .row .now) (n .result) (n .ensures .0) (s .if1 .left) (c .before .before .before .before .before .if2 .left) (c .before .before .before .before .if3 .left) in
+    let t = c .before .before .before .before in
+    let w = lists _ _ (s .before .before .of .ensures) (s .before .before .before .args .row .now) (n .result) (n .ensures .0) (s .if1 .left) (t .before .if2 .left) (t .if3 .left) in
     (w .0, c .before .write-list .ensures ∙ w .1)
 
 pub depths-spec : {M : Type 1} → statement M

@@ -1,15 +1,15 @@
 -- `force`: a product that 64 bits hold. Assumes nothing.
-use Prim.Native.Nat.{_*_}
 use native.Mathlib.Omega.{arith}
 use lib.IntN.{pos, _*ℤ_}
 use mir.Syntax.{w64}
-use mir.Val.{toZ, ofZ}
+use mir.Val.{toZ}
 use borrow.Author.Needs.{needs}
-use Rattle.arith.proofs.Signed.{Stands, stands, stands-pos, stands-mul, stands-fits, stored, stands-for}
+use Rattle.arith.proofs.Signed.{back, Stands, stands, stands-pos, stands-mul, stands-fits, stored, stands-for}
+use Rattle.balance.specs.Code.{mostForce}
 use Rattle.balance.proofs.force.Statement.{statement}
 use Rattle.balance.proofs.force.Tie as tie
 
-product : (c : tie.Start) → Stands (toZ w64 (c .args .width) *ℤ toZ w64 (ofZ w64 (c .args .stress))) (pos (c .args .width) *ℤ c .args .stress) (65535 * 521739)
+product : (c : tie.Start) → Stands (toZ w64 (c .args .width) *ℤ back (c .args .stress)) (pos (c .args .width) *ℤ c .args .stress) mostForce
 product c = stands-mul (stands-pos (c .args .width) 65535 (omega arith) (omega arith)) (stored (stands (c .args .stress) 521739 (c .pre)) (omega arith))
 
 pub force-spec : {M : Type 1} → statement M

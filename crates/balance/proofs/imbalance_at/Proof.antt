@@ -1,15 +1,16 @@
 -- `imbalance_at`: strips, bars and load. Assumes nothing.
 use Prim.Native.Nat.{_+_, _*_}
-use mathlib.Core.Path.{_≡_, ap, _∙_}
+use mathlib.Core.Path.{ap, _∙_}
 use native.Mathlib.Omega.{arith}
-use lib.IntN.{pos, _+ℤ_, _-ℤ_, _*ℤ_}
-use mir.Syntax.{w32, w64}
+use lib.IntN.{ℤ, pos, _+ℤ_, _*ℤ_}
+use mir.Syntax.{w32}
 use mir.Val.{toZ, ofZ}
 use borrow.Author.Needs.{needs}
-use Rattle.arith.proofs.Signed.{Stands, given, stands, stands-i32, stands-add, stands-sub, stands-mul, stands-fits, stored}
+use Rattle.arith.proofs.Signed.{back, Stands, returned, stands, stands-i32, stands-add, stands-sub, stands-mul, stands-fits, stored}
 use Rattle.law.specs.Law.{lawOf}
 use Rattle.law.specs.Stress.{rounded}
 use Rattle.balance.specs.Forces.{forces, loadOf, imbalance}
+use Rattle.balance.specs.Code.{mostForce}
 use Rattle.balance.proofs.imbalance_at.Statement.{statement}
 use Rattle.balance.proofs.imbalance_at.Tie as tie
 
@@ -21,30 +22,37 @@ strips-force-requires c κs =
 abbrev Summed : Type 0
 Summed = tie.After-struct-told
 
-abbrev Met : Type 0
-Met = tie.After-struct-told2
-
 abbrev start : Summed → tie.Start
 start c = c .before .before .before .before .before
 
-inside : (c : Summed) → Stands (toZ w64 (ofZ w64 (c .before .before .strips-force .result)) +ℤ toZ w64 (ofZ w64 (c .before .before .before .bars .result .force))) (forces rounded (lawOf (start c .args .section)) (start c .args .section) (c .before .before .before .before .axis-at .result .x)) (2000 * (65536 * 2000) + 65535 * 521739 * 8)
+abbrev computed : Summed → ℤ
+computed c = back (c .before .before .strips-force .result) +ℤ back (c .before .before .before .bars .result .force)
+
+inside : (c : Summed)
+    → let s = start c .args .section in Stands (computed c) (forces rounded (lawOf s) s (c .before .before .before .before .axis-at .result .x)) (2000 * (65536 * 2000) + mostForce * 8)
 unfolding forces
 inside c =
     let f = c .before .before .strips-force .ensures in
     let b = c .before .before .before .bars .ensures in
-    stands-add (given (2000 * (65536 * 2000)) (f .0) (rw (← f .0) (f .1)) (omega arith)) (given (65535 * 521739 * 8) (b .0) (rw (← b .0) (b .1)) (omega arith))
+    stands-add (returned (2000 * (65536 * 2000)) (f .0) (f .1) (omega arith)) (returned (mostForce * 8) (b .forces) (b .force-most) (omega arith))
 
-load : (c : Met) → Stands (toZ w32 (ofZ w32 (start (c .before .before) .args .section .load))) (start (c .before .before) .args .section .load) 10000000
-load c = stands-i32 (start (c .before .before) .args .section .load) 10000000 (start (c .before .before) .pre .0 .load) (omega arith)
+abbrev Met : Type 0
+Met = tie.After-struct-told2
 
-outside : (c : Met) → Stands (pos 1000 *ℤ toZ w64 (ofZ w64 (toZ w32 (ofZ w32 (start (c .before .before) .args .section .load))))) (loadOf (start (c .before .before) .args .section)) (1000 * 10000000)
+abbrev begun : Met → tie.Start
+begun c = start (c .before .before)
+
+load : (c : Met) → Stands (toZ w32 (ofZ w32 (begun c .args .section .load))) (begun c .args .section .load) 10000000
+load c = stands-i32 (begun c .args .section .load) 10000000 (begun c .pre .0 .load) (omega arith)
+
+outside : (c : Met) → Stands (pos 1000 *ℤ back (toZ w32 (ofZ w32 (begun c .args .section .load)))) (loadOf (begun c .args .section)) (1000 * 10000000)
 outside c = stands-mul (stands (pos 1000) 1000 (omega arith)) (stored (load c) (omega arith))
 
 returns : tie.Need-returns
 unfolding imbalance
 returns c =
     let all = stands-sub (stored (inside (c .before .before)) (omega arith)) (stored (outside c) (omega arith)) in
-    stored all (omega arith) .is ∙ ap (imbalance (start (c .before .before) .args .section)) (c .before .before .before .before .before .before .axis-at .ensures .0)
+    stored all (omega arith) .is ∙ ap (imbalance (begun c .args .section)) (c .before .before .before .before .before .before .axis-at .ensures .0)
 
 pub imbalance-at-spec : {M : Type 1} → statement M
 imbalance-at-spec =

@@ -1,12 +1,12 @@
 -- `imbalances`: one more depth is kept at each turn. Assumes nothing.
-use Prim.Native.Nat.{_+_, _-_, _≤_, _<_}
+use Prim.Native.Nat.{_-_, _≤_}
 use mathlib.Core.Path.{_≡_, ap, _∙_}
 use native.Mathlib.Omega.{arith}
 use lib.IntN.{pos}
 use lib.ListN.{length, length-set, length-replicate}
 use borrow.Author.Needs.{needs}
 use Rattle.arith.proofs.Signed.{read}
-use Rattle.balance.specs.Depths.{Kept}
+use Rattle.balance.specs.Code.{Kept}
 use Rattle.balance.proofs.Kept.{kept-next}
 use Rattle.balance.proofs.imbalances.Statement.{statement}
 use Rattle.balance.proofs.imbalances.Tie as tie
@@ -20,7 +20,9 @@ abbrev μ-loop : tie.MeasureT-loop
 loop-again : tie.Need-loop-again Inv-loop μ-loop
 loop-again c =
     let l = c .before .before .loop in
-    (omega arith, length-set (l .kept) (l .i) _ ∙ l .inv .1, kept-next _ (l .i) (l .kept) _ (l .inv .2) (omega (arith, l .inv .1, c .before .before .before .before .before .pre .0 .height .1)) (read (record { sfits = c .imbalance-at .ok }) ∙ c .imbalance-at .ensures))
+    let high = c .before .before .before .before .before .pre .0 .height .1 in
+    let is = read (record { sfits = c .imbalance-at .ok }) ∙ c .imbalance-at .ensures in
+    (omega arith, length-set (l .kept) (l .i) _ ∙ l .inv .1, kept-next _ (l .i) (l .kept) _ (l .inv .2) (omega (arith, l .inv .1, high)) is)
 
 returns : tie.Need-returns Inv-loop μ-loop
 returns c i h = c .before .loop .inv .2 i (omega arith)

@@ -22,11 +22,14 @@ returns c =
 some : (c : tie.Else1) → imbalance (c .before .before .args .section) (c .before .before .args .i + 1) ≡ pos 0 → ⊥
 some c e = c .if1 .left (ap (ofZ w64) (c .before .before .pre .1 (c .before .before .args .i) (c .before .before .pre .2) ∙ e))
 
-turns : (c : tie.After-opposite) → let s = c .before .before .before .before .before .before .args in c .opposite .result ≡ opposite (imbalance (s .section) (s .i + 1)) (imbalance (s .section) (s .i + 1 + 1))
+turns : (c : tie.After-opposite)
+    → let s = c .before .before .before .before .before .before .args in
+    c .opposite .result ≡ opposite (imbalance (s .section) (s .i + 1)) (imbalance (s .section) (s .i + 1 + 1))
 turns c =
     let a = c .before .before .before .before .before .before in
-    c .opposite .ensures
-    ∙ (λ j. opposite ((read (record { sfits = c .before .before .before .before .before .here .given }) ∙ a .pre .1 (a .args .i) (a .pre .2)) j) ((read (record { sfits = c .before .opposite-arg .given }) ∙ a .pre .1 (a .args .i + 1) (c .before .before .if2 .taken)) j))
+    let here = read (record { sfits = c .before .before .before .before .before .here .given }) ∙ a .pre .1 (a .args .i) (a .pre .2) in
+    let next = read (record { sfits = c .before .opposite-arg .given }) ∙ a .pre .1 (a .args .i + 1) (c .before .before .if2 .taken) in
+    c .opposite .ensures ∙ (λ j. opposite (here j) (next j))
 
 returns-2 : tie.Need-returns-2
 returns-2 c =

@@ -1,25 +1,27 @@
 -- `moment_at`: strips and bars. Assumes nothing.
 use Prim.Native.Nat.{_+_, _*_}
-use mathlib.Core.Path.{_≡_, ap, _∙_}
+use mathlib.Core.Path.{ap, _∙_}
 use native.Mathlib.Omega.{arith}
-use lib.IntN.{_+ℤ_}
-use mir.Syntax.{w64}
-use mir.Val.{toZ, ofZ}
+use lib.IntN.{ℤ, _+ℤ_}
 use borrow.Author.Needs.{needs}
-use Rattle.arith.proofs.Signed.{Stands, given, stands-add, stands-fits, stored}
+use Rattle.arith.proofs.Signed.{back, Stands, returned, stands-add, stands-fits, stored}
 use Rattle.balance.specs.Forces.{moments, moment}
+use Rattle.balance.specs.Code.{mostMoment}
 use Rattle.balance.proofs.moment_at.Statement.{statement}
 use Rattle.balance.proofs.moment_at.Tie as tie
 
 abbrev Met : Type 0
 Met = tie.After-struct-told
 
-all : (c : Met) → Stands (toZ w64 (ofZ w64 (c .before .before .strips-moment .result)) +ℤ toZ w64 (ofZ w64 (c .before .before .before .bars .result .moment))) (moment (c .before .before .before .before .before .args .section) (c .before .before .before .before .axis-at .result .x)) (1000 * (65535 * 521739) * 1000 + 1000 * (65535 * 521739) * 8)
+abbrev computed : Met → ℤ
+computed c = back (c .before .before .strips-moment .result) +ℤ back (c .before .before .before .bars .result .moment)
+
+all : (c : Met) → Stands (computed c) (moment (c .before .before .before .before .before .args .section) (c .before .before .before .before .axis-at .result .x)) (mostMoment * 1000 + mostMoment * 8)
 unfolding moment moments
 all c =
     let f = c .before .before .strips-moment .ensures in
     let b = c .before .before .before .bars .ensures in
-    stands-add (given (1000 * (65535 * 521739) * 1000) (f .0) (rw (← f .0) (f .1)) (omega arith)) (given (1000 * (65535 * 521739) * 8) (b .2) (rw (← b .2) (b .3)) (omega arith))
+    stands-add (returned (mostMoment * 1000) (f .0) (f .1) (omega arith)) (returned (mostMoment * 8) (b .moments) (b .moment-most) (omega arith))
 
 returns : tie.Need-returns
 returns c = stored (all c) (omega arith) .is ∙ ap (moment (c .before .before .before .before .before .args .section)) (c .before .before .before .before .axis-at .ensures .0)

@@ -13,13 +13,14 @@ use Rattle.law.specs.Law.{lawOf}
 use Rattle.law.specs.Stress.{rounded}
 use Rattle.strips.proofs.Runs.{strip-most}
 use Rattle.balance.specs.Forces.{widthAt, lever, stripForce, stripMoment}
+use Rattle.balance.specs.Code.{mostMoment}
 use Rattle.balance.proofs.Strips.{strip-is}
 use Rattle.balance.proofs.strips_moment.Statement.{statement}
 use Rattle.balance.proofs.strips_moment.Tie as tie
 
 abbrev Inv-loop : tie.InvT-loop
 Inv-loop section law axis h moment₀ i₀ moment i =
-    (i ≤ h) × Running (stripMoment rounded (lawOf section) section (axis .x)) (1000 * (65535 * 521739)) i (toZ w64 moment)
+    (i ≤ h) × Running (stripMoment rounded (lawOf section) section (axis .x)) mostMoment i (toZ w64 moment)
 
 abbrev μ-loop : tie.MeasureT-loop
 μ-loop section law axis h moment₀ i₀ moment i = h - i
@@ -42,12 +43,13 @@ turned-is c =
     let p = c .before .before .before .before .before .pre in
     let i = c .before .before .before .before .loop .i in
     let f = c .before in
+    let own = strip-is (a .section) (a .law) (a .axis) (p .0) (p .1) (p .2) i (leb (a .axis .x) i) refl in
     c .turned .ensures .0
     ∙ ap (λ z. lever (a .section) (2 * i + 1) *ℤ z)
     (read (record { sfits = f .force .ok }) ∙ f .force .ensures .0
-    ∙ ap (λ z. pos (widthAt (a .section) i) *ℤ z) (read (record { sfits = f .before .strip .ok }) ∙ f .before .strip .ensures ∙ strip-is (a .section) (a .law) (a .axis) (p .0) (p .1) (p .2) i (leb (a .axis .x) i) refl))
+    ∙ ap (λ z. pos (widthAt (a .section) i) *ℤ z) (read (record { sfits = f .before .strip .ok }) ∙ f .before .strip .ensures ∙ own))
 
-room : (c : tie.After-turned Inv-loop μ-loop) → 1000 * (65535 * 521739) * (c .before .before .before .before .loop .i + 1) < 2 ^ 63
+room : (c : tie.After-turned Inv-loop μ-loop) → mostMoment * (c .before .before .before .before .loop .i + 1) < 2 ^ 63
 room c = omega (arith, c .before .before .before .before .before .pre .0 .height .1)
 
 add-moment : tie.Need-add-moment Inv-loop μ-loop

@@ -1,22 +1,28 @@
 -- `turned`: a difference and a product that 64 bits hold. Assumes nothing.
-use Prim.Native.Nat.{_*_}
 use native.Mathlib.Omega.{arith}
-use lib.IntN.{pos, _-ℤ_, _*ℤ_}
+use lib.IntN.{ℤ, pos, _-ℤ_, _*ℤ_}
 use mir.Syntax.{w64}
-use mir.Val.{toZ, ofZ}
+use mir.Val.{toZ}
 use borrow.Author.Needs.{needs}
-use Rattle.arith.proofs.Signed.{Stands, stands, stands-pos, stands-mul, stands-fits, stored, stands-for, read-pos, lever-most}
+use Rattle.arith.proofs.Signed.{back, Stands, stands, stands-mul, stands-fits, stored, stands-for, read-pos, lever-most}
+use Rattle.balance.specs.Code.{mostForce, mostMoment}
 use Rattle.balance.proofs.turned.Statement.{statement}
 use Rattle.balance.proofs.turned.Tie as tie
 
-lever : (c : tie.Start) → Stands (toZ w64 (c .args .h) -ℤ toZ w64 (c .args .position)) (pos (c .args .h) -ℤ pos (c .args .position)) 1000
+abbrev computed : tie.Start → ℤ
+computed c = toZ w64 (c .args .h) -ℤ toZ w64 (c .args .position)
+
+abbrev meant : tie.Start → ℤ
+meant c = pos (c .args .h) -ℤ pos (c .args .position)
+
+lever : (c : tie.Start) → Stands (computed c) (meant c) 1000
 lever c = record {
   is = λ i. read-pos (c .args .h) (omega arith) i -ℤ read-pos (c .args .position) (omega arith) i;
   most = omega (arith, lever-most (c .args .h) (c .args .position) (c .pre .1), c .pre .0);
 }
 
-product : (c : tie.Start) → Stands (toZ w64 (ofZ w64 (toZ w64 (c .args .h) -ℤ toZ w64 (c .args .position))) *ℤ toZ w64 (ofZ w64 (c .args .force))) ((pos (c .args .h) -ℤ pos (c .args .position)) *ℤ c .args .force) (1000 * (65535 * 521739))
-product c = stands-mul (stored (lever c) (omega arith)) (stored (stands (c .args .force) (65535 * 521739) (c .pre .2)) (omega arith))
+product : (c : tie.Start) → Stands (back (computed c) *ℤ back (c .args .force)) (meant c *ℤ c .args .force) mostMoment
+product c = stands-mul (stored (lever c) (omega arith)) (stored (stands (c .args .force) mostForce (c .pre .2)) (omega arith))
 
 pub turned-spec : {M : Type 1} → statement M
 turned-spec =

@@ -30,7 +30,8 @@ some : (c : tie.Then1 Inv-loop μ-loop) → kindAt (c .before .before .before .b
 some c e = c .if1 .taken (c .before .kind-at .ensures .0 ∙ e)
 
 -- the whole list has a place in the row, so this entry has
-room : (c : tie.Then1 Inv-loop μ-loop) → (c .before .before .before .loop .at + 3 ≤ length (c .before .before .before .before .before .args .row .now)) × (c .before .before .before .loop .i < 1000)
+room : (c : tie.Then1 Inv-loop μ-loop)
+    → let l = c .before .before .before .loop in (l .at + 3 ≤ length (c .before .before .before .before .before .args .row .now)) × (l .i < 1000)
 room c =
     let a = c .before .before .before .before .before in
     let s = a .args .section in
@@ -68,8 +69,10 @@ returns : tie.Need-returns Inv-loop μ-loop
 returns c =
     let a = c .before .before .before .args in
     let l = c .before .loop in
+    let k = kindAt (a .section) in
+    let m = moment (a .section) in
     let all : l .i ≡ a .section .h = omega arith in
-    l .inv .3 ∙ (λ j. words (listTo (kindAt (a .section)) (moment (a .section)) (all j)) ++ drop ((l .inv .1 ∙ ap (λ n. 3 * length (listTo (kindAt (a .section)) (moment (a .section)) n)) all) j) (a .row .now))
+    l .inv .3 ∙ (λ j. words (listTo k m (all j)) ++ drop ((l .inv .1 ∙ ap (λ n. 3 * length (listTo k m n)) all) j) (a .row .now))
 
 pub write-list-spec : {M : Type 1} → statement M
 write-list-spec =

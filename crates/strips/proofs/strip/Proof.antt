@@ -1,5 +1,5 @@
 -- `strip`: by the side that it lies on. Assumes nothing.
-use mathlib.Core.Path.{_≡_, ap, _∙_}
+use mathlib.Core.Path.{ap, _∙_}
 use native.Mathlib.Omega.{arith}
 use lib.IntN.{pos, negℤ}
 use borrow.Author.Tests.{le-leb, lt-leb}
@@ -24,4 +24,11 @@ returns-2 c =
 pub strip-spec : {M : Type 1} → statement M
 strip-spec =
     tie.close
-    (tie.spec (λ c κs. search needs) (λ c. search needs) sub-result (λ c κs. search needs) (λ c. search needs) returns returns-2)
+    (tie.spec
+    (λ c κs. le-leb _ _ (c .if1 .taken))
+    (λ c. search needs)
+    sub-result
+    (λ c κs. lt-leb _ _ (c .if1 .left))
+    (λ c. search needs)
+    returns
+    returns-2)

@@ -1,6 +1,6 @@
 -- `total`: the sum so far is that of the strips passed. Assumes nothing.
 use Prim.Native.Nat.{_+_, _*_, _-_, _≤_}
-use mathlib.Core.Path.{_≡_, refl, sym, ap, _∙_}
+use mathlib.Core.Path.{_≡_, sym, ap, _∙_}
 use native.Mathlib.Nat.{sub-self}
 use native.Mathlib.Omega.{arith}
 use borrow.Author.Needs.{needs}
@@ -45,7 +45,7 @@ total-spec =
     Inv-loop
     μ-loop
     loop-holds
-    (λ c κs. search needs)
+    (λ c κs. c .before .before .pre _ (c .before .loop .inv .0) (c .loop-test .taken))
     (λ c. search needs)
     (λ c. search needs)
     (λ c. search needs)

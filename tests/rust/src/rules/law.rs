@@ -1,4 +1,4 @@
-//! Stress at a strain, exactly. Compression is positive.
+//! Stress at a strain, exactly, of concrete and of bars. Compression is positive.
 use super::section::Section;
 use crate::fraction::Fraction;
 
@@ -31,6 +31,7 @@ pub const TABLE: [Concrete; 7] = [
 #[derive(Debug, Clone, PartialEq, Eq)]
 pub struct Law {
     pub fcd: i128,
+    pub fyd: i128,
     /// A strain and its stress at each corner of the tension law, by rising strain: at -e3, -e2, -e1 and 0.
     pub corners: [(i128, i128); 4],
 }
@@ -48,6 +49,7 @@ impl Law {
         let s3 = 37 * i128::from(section.feq3) / 100;
         Law {
             fcd: i128::from(section.fck) * 1000 * 17 / 30,
+            fyd: i128::from(section.fyk) * 1000 * 100 / 115,
             corners: [(-10_000, -s3), (-e1 - 100, -s2), (-e1, -s1), (0, 0)],
         }
     }
@@ -63,6 +65,12 @@ impl Law {
             .windows(2)
             .find(|line| line[0].0 * q <= p && p <= line[1].0 * q)
             .map_or(Fraction::new(0, 1), |line| between(line[0], line[1], p, q))
+    }
+
+    /// A bar's stress at a strain of p / q, q above 0.
+    pub fn bar_stress(&self, p: i128, q: i128) -> Fraction {
+        let most = self.fyd * q;
+        Fraction::new((200 * p).clamp(-most, most), q)
     }
 }
 

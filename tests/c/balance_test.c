@@ -1,0 +1,149 @@
+/* fw_imbalance, fw_moment and fw_depths as the panel's program calls them: document 01's figures, several depths, a zero at the last
+ * depth, rows too short, just long enough and longer, and each refusal. */
+#include "fordwhistle.h"
+
+#include "check.h"
+#include "record.h"
+
+enum { ROOM = 32 };
+
+/* The two records of document 01's book. */
+static const section plate = {.b = 1000, .h = 100, .fck = 30, .fyk = 500, .feq2 = 3700, .feq3 = 4500};
+static const section beam = {.b = 400, .h = 600, .fck = 30, .fyk = 500, .feq2 = 2000, .feq3 = 2000, .load = 10000000, .m = 1,
+                             .layers = {{540, 3216}}};
+
+/* Without load. From x = 22 on the concrete below the bars, torn until then, comes back into tension about as fast as compression grows;
+ * the last depth has half as much moment again as the first. */
+static const section softening = {.b = 600, .h = 140, .fck = 40, .fyk = 500, .feq2 = 13500, .feq3 = 18500, .m = 2,
+                                  .layers = {{5, 390}, {84, 390}}};
+static const int64_t five[] = {
+    21, 2, 46797731640, 22, 2, 48727901040, 24, 2, 52937492640, 29, 2, 64844811240, 31, 2, 70385160240,
+};
+
+/* What a word holds before the call: no word of a list, and another at each place. */
+static int64_t unwritten(size_t at)
+{
+    return INT64_MIN + (int64_t)at;
+}
+
+/* Whether a row of so many words is answered with this, then begins with the list, and all else up to ROOM is as it was. */
+static int answers(section s, size_t words, uint32_t refusal, uint32_t count, const int64_t *list, size_t listed)
+{
+    record r = record_of(s);
+    int64_t row[ROOM];
+    fw_listed answer;
+    for (size_t i = 0; i < ROOM; i++)
+        row[i] = unwritten(i);
+    answer = fw_depths(r.bytes, r.len, row, words);
+    for (size_t i = 0; i < ROOM; i++)
+        if (row[i] != (i < listed ? list[i] : unwritten(i)))
+            return 0;
+    return answer.refusal == refusal && answer.count == count;
+}
+
+static int lists(section s, size_t words, const int64_t *list, uint32_t count)
+{
+    return answers(s, words, 0, count, list, 3 * (size_t)count);
+}
+
+static int refuses_row(section s, size_t words, uint32_t refusal, uint32_t count)
+{
+    return answers(s, words, refusal, count, NULL, 0);
+}
+
+static int is(fw_amount answer, uint32_t refusal, int64_t amount)
+{
+    return answer.refusal == refusal && answer.amount == amount;
+}
+
+static int gives(section s, uint32_t x, int64_t imbalance, int64_t moment)
+{
+    record r = record_of(s);
+    return is(fw_imbalance(r.bytes, r.len, x), 0, imbalance) && is(fw_moment(r.bytes, r.len, x), 0, moment);
+}
+
+static int refuses_depth(section s, uint32_t x, uint32_t refusal)
+{
+    record r = record_of(s);
+    return is(fw_imbalance(r.bytes, r.len, x), refusal, 0) && is(fw_moment(r.bytes, r.len, x), refusal, 0);
+}
+
+static void the_figures(void)
+{
+    static const int64_t list[] = {14, 2, 14476473000};
+    CHECK(gives(plate, 14, -4957000, 14476473000));
+    CHECK(lists(plate, ROOM, list, 1));
+    CHECK(refuses_row(beam, ROOM, 14, 0));
+}
+
+static void every_depth_is_listed(void)
+{
+    static const section s = {.b = 1000, .h = 120, .fck = 40, .fyk = 500, .feq2 = 20000, .feq3 = 11000, .load = -439304, .m = 1,
+                              .layers = {{61, 1000}}};
+    static const int64_t zero_among_seven[] = {
+        15, 2, 15321686000, 16, 2, 18134375000, 17, 2, 20388985000, 22, 1, 33718716000,
+        24, 2, 40095920000, 27, 2, 50386020000, 31, 2, 66501547000,
+    };
+    CHECK(lists(softening, ROOM, five, 5));
+    CHECK(gives(s, 22, 0, 33718716000));
+    CHECK(lists(s, ROOM, zero_among_seven, 7));
+}
+
+/* The last depth has no next one: it is listed where its imbalance is zero, and not where that is 1 N less. */
+static void the_last_depth_is_listed_as_a_zero_only(void)
+{
+    static const int64_t last[] = {100, 1, 23126626000}, before[] = {99, 2, 24084835000};
+    section s = plate;
+    s.load = 1376184;
+    CHECK(lists(s, ROOM, last, 1));
+    s.load = 1376183;
+    CHECK(lists(s, ROOM, before, 1));
+    s.load = 1376185;
+    CHECK(gives(s, 100, -1000, 23126626000));
+    CHECK(refuses_row(s, ROOM, 14, 0));
+}
+
+static void a_row_has_its_length(void)
+{
+    CHECK(refuses_row(softening, 0, 15, 5));
+    CHECK(refuses_row(softening, 14, 15, 5));
+    CHECK(lists(softening, 15, five, 5));
+    CHECK(lists(softening, 16, five, 5));
+}
+
+static void depths_have_their_limits(void)
+{
+    CHECK(gives(plate, 1, -167293000, -64897000));
+    CHECK(gives(plate, 100, 1376184000, 23126626000));
+    CHECK(refuses_depth(plate, 0, 18));
+    CHECK(refuses_depth(plate, 101, 18));
+    CHECK(refuses_depth(plate, 65536 + 14, 18));
+    CHECK(refuses_depth(plate, UINT32_MAX, 18));
+}
+
+/* Each comes before a depth off the grid, before 14 (the beam has no depth to list) and so before a row too short. */
+static void a_bad_record_comes_first(void)
+{
+    section s = beam;
+    CHECK(refuses_row(s, 0, 14, 0));
+    s.asw = 1;
+    CHECK(refuses_depth(s, 0, 13));
+    CHECK(refuses_row(s, 0, 13, 0));
+    s.fck = 29;
+    CHECK(refuses_depth(s, 0, 7));
+    CHECK(refuses_row(s, 0, 7, 0));
+    s.zero = 1;
+    CHECK(refuses_depth(s, 0, 6));
+    CHECK(refuses_row(s, 0, 6, 0));
+}
+
+int main(void)
+{
+    the_figures();
+    every_depth_is_listed();
+    the_last_depth_is_listed_as_a_zero_only();
+    a_row_has_its_length();
+    depths_have_their_limits();
+    a_bad_record_comes_first();
+    return verdict();
+}

@@ -1,0 +1,173 @@
+//! Strains, strips and balance. Each strip and bar layer keeps its exact stress; it is rounded where the rules' sums are asked for, and the
+//! exact sums are made of the same.
+use super::law::Law;
+use super::section::Section;
+use crate::fraction::Fraction;
+
+/// `fw_amount`, as the header lays it out.
+#[repr(C)]
+#[derive(Debug, Clone, Copy, PartialEq, Eq)]
+pub struct Amount {
+    pub refusal: u32,
+    pub amount: i64,
+}
+
+/// `fw_listed`.
+#[repr(C)]
+#[derive(Debug, Clone, Copy, PartialEq, Eq)]
+pub struct Listed {
+    pub refusal: u32,
+    pub count: u32,
+}
+
+/// Imbalance in mN and moment in mN half-mm.
+#[derive(Debug, Clone, Copy, PartialEq, Eq)]
+pub struct Sums<T> {
+    pub imbalance: T,
+    pub moment: T,
+}
+
+/// A strip or a bar layer: its area, twice its distance above mid-height, its exact stress.
+struct Share {
+    area: i128,
+    lever: i128,
+    stress: Fraction,
+}
+
+/// Every strip and bar layer of an accepted section, with the neutral axis at depth x.
+fn shares(section: &Section, x: u16) -> Vec<Share> {
+    let law = Law::of(section);
+    let [b, h, d, x] = [section.b, section.h, section.effective_depth(), x].map(i128::from);
+    let (slope, over) = match 7 * d > 27 * x {
+        true => (10_000, d - x),
+        false => (3500, x),
+    };
+    // Twice a depth is whole in the middle of a strip too.
+    let share = |area, twice, stress: fn(&Law, i128, i128) -> Fraction| Share {
+        area,
+        lever: h - twice,
+        stress: stress(&law, slope * (2 * x - twice), 2 * over),
+    };
+    let strips = (0..h).map(|strip| share(b, 2 * strip + 1, Law::stress));
+    let bars = section.layers.iter().map(|layer| {
+        share(
+            layer.area.into(),
+            2 * i128::from(layer.depth),
+            Law::bar_stress,
+        )
+    });
+    strips.chain(bars).collect()
+}
+
+/// The rules' sums of an accepted section at a depth on the grid.
+pub fn rounded(section: &Section, x: u16) -> Sums<i128> {
+    let mut sums = Sums {
+        imbalance: -1000 * i128::from(section.load),
+        moment: 0,
+    };
+    for share in shares(section, x) {
+        let force = share.area * share.stress.towards_zero();
+        sums.imbalance += force;
+        sums.moment += share.lever * force;
+    }
+    sums
+}
+
+/// The exact sums: the same with unrounded stresses.
+pub fn exact(section: &Section, x: u16) -> Sums<Fraction> {
+    let shares = shares(section, x);
+    let force = |share: &Share| share.stress.times(share.area);
+    let load = Fraction::new(-1000 * i128::from(section.load), 1);
+    Sums {
+        imbalance: shares.iter().map(force).chain([load]).sum(),
+        moment: shares
+            .iter()
+            .map(|share| force(share).times(share.lever))
+            .sum(),
+    }
+}
+
+/// The area of concrete and bars: rounding may take one kPa from all of it.
+pub fn area(section: &Section) -> i128 {
+    let bars: i128 = section
+        .layers
+        .iter()
+        .map(|layer| i128::from(layer.area))
+        .sum();
+    i128::from(section.b) * i128::from(section.h) + bars
+}
+
+/// Listed depths: x, kind, moment.
+pub type List = Vec<[i64; 3]>;
+
+/// Those of an accepted section.
+fn list(section: &Section) -> List {
+    let sums: Vec<Sums<i128>> = (1..=section.h).map(|x| rounded(section, x)).collect();
+    // What stands after the last depth is opposite to nothing.
+    let signs: Vec<i128> = sums
+        .iter()
+        .map(|sums| sums.imbalance.signum())
+        .chain([0])
+        .collect();
+    let kind = |pair: &[i128]| match (pair[0], pair[0] * pair[1]) {
+        (0, _) => Some(1),
+        (_, -1) => Some(2),
+        _ => None,
+    };
+    let depths = (1..).zip(signs.windows(2)).zip(sums);
+    depths
+        .filter_map(|((x, pair), sums)| kind(pair).map(|kind| [x, kind, whole(sums.moment)]))
+        .collect()
+}
+
+fn whole(n: i128) -> i64 {
+    i64::try_from(n).expect("imbalances and moments fit in 64 bits")
+}
+
+/// What `fw_imbalance` and `fw_moment` answer.
+pub fn amounts(record: &[u8], x: u32) -> Sums<Amount> {
+    let sums = Section::of(record).and_then(|section| {
+        let on_grid = (1..=u32::from(section.h)).contains(&x);
+        on_grid.then(|| rounded(&section, x as u16)).ok_or(18)
+    });
+    let (refusal, imbalance, moment) = match sums {
+        Ok(sums) => (0, whole(sums.imbalance), whole(sums.moment)),
+        Err(refusal) => (refusal, 0, 0),
+    };
+    let answer = |amount| Amount { refusal, amount };
+    Sums {
+        imbalance: answer(imbalance),
+        moment: answer(moment),
+    }
+}
+
+/// The listed depths of a record's section, or the refusal, 6 to 13.
+pub fn list_of(record: &[u8]) -> Result<List, u32> {
+    Section::of(record).map(|section| list(&section))
+}
+
+/// What `fw_depths` answers and writes where this is the list.
+pub fn write(list: &Result<List, u32>, row: &mut [i64]) -> Listed {
+    let list = match list {
+        Ok(list) => list,
+        Err(refusal) => {
+            return Listed {
+                refusal: *refusal,
+                count: 0,
+            }
+        }
+    };
+    let words = list.as_flattened();
+    let refusal = match row.get_mut(..words.len()) {
+        _ if words.is_empty() => 14,
+        None => 15,
+        Some(start) => {
+            start.copy_from_slice(words);
+            0
+        }
+    };
+    Listed {
+        refusal,
+        count: list.len() as u32,
+    }
+}

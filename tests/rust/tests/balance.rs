@@ -1,0 +1,218 @@
+//! `fw_imbalance`, `fw_moment` and `fw_depths` held to document 01's balance.
+use fordwhistle_tests::held::Held;
+use fordwhistle_tests::random::Random;
+use fordwhistle_tests::rules::{self, List, Section};
+use fordwhistle_tests::sections;
+use std::collections::BTreeSet;
+use std::sync::LazyLock;
+
+/// A record with its list or its refusal, worked out once for every row and every test.
+struct Case {
+    record: Vec<u8>,
+    list: Result<List, u32>,
+}
+
+fn case(record: Vec<u8>) -> Case {
+    let list = rules::list_of(&record);
+    Case { record, list }
+}
+
+/// Many low sections and few high ones: a list takes as many stresses as the square of the height.
+static ACCEPTED: LazyLock<Vec<(Section, Case)>> = LazyLock::new(|| {
+    let mut random = Random::new(5);
+    let mut heights = vec![50; 1000];
+    heights.extend((0..2000).map(|_| random.within(51..=64) as u16));
+    heights.extend((0..60).map(|_| random.within(65..=400) as u16));
+    heights.extend([999, 1000, 1000, 1000, 1000]);
+    let section = |h| sections::balanced(&mut random, h);
+    let sections = heights.into_iter().map(section);
+    sections.map(|s| (s.clone(), case(s.record()))).collect()
+});
+
+static DAMAGED: LazyLock<Vec<Case>> = LazyLock::new(|| {
+    let mut random = Random::new(6);
+    let mut record = || {
+        let section = sections::accepted_of(&mut random, 50);
+        sections::damaged(&mut random, section)
+    };
+    (0..10_000).map(|_| case(record())).collect()
+});
+
+/// Every depth of the grid and what is next to it, and depths that are on it in their lower 16 bits alone.
+fn each_depth(mut take: impl FnMut(&[u8], u32)) {
+    for (section, case) in ACCEPTED.iter() {
+        let h = u32::from(section.h);
+        let far = [65_537, 65_536 + h, u32::MAX];
+        (0..=h + 1).chain(far).for_each(|x| take(&case.record, x));
+    }
+    for (case, x) in DAMAGED.iter().zip((0..=60).cycle()) {
+        take(&case.record, x);
+    }
+}
+
+/// A row of no words, one too short by a word, one of just the list's words, and a longer one.
+fn each_row(mut take: impl FnMut(&Case, &[i64])) {
+    let mut random = Random::new(7);
+    let accepted = ACCEPTED.iter().map(|(_, case)| case);
+    for case in accepted.chain(DAMAGED.iter()) {
+        let words = case.list.as_ref().map_or(0, |list| 3 * list.len());
+        let longer = words + random.within(1..=9) as usize;
+        for words in BTreeSet::from([0, words.saturating_sub(1), words, longer]) {
+            let row: Vec<i64> = (0..words).map(|_| random.number() as i64).collect();
+            take(case, &row);
+        }
+    }
+}
+
+#[test]
+fn the_face_gives_the_rules_imbalance_and_moment() {
+    let mut held = Held::new();
+    each_depth(|record, x| held.amounts(record, x, rules::amounts(record, x)));
+    held.finish();
+}
+
+#[test]
+fn the_face_writes_the_rules_list() {
+    let mut held = Held::new();
+    each_row(|case, before| {
+        let mut after = before.to_vec();
+        let listed = rules::write(&case.list, &mut after);
+        held.depths(&case.record, before, listed, &after);
+    });
+    held.finish();
+}
+
+/// Sections of every kind, as many as exact sums have time for.
+fn some() -> impl Iterator<Item = &'static (Section, Case)> {
+    ACCEPTED.iter().step_by(10)
+}
+
+/// Of the answers that the face is held to.
+#[test]
+fn the_amounts_are_within_their_allowance_of_the_exact_sums() {
+    for (section, case) in some() {
+        let area = rules::area(section);
+        for x in (1..=section.h).step_by(usize::from(section.h / 50)) {
+            let exact = rules::exact(section, x);
+            let answers = rules::amounts(&case.record, x.into());
+            let (imbalance, moment) = (answers.imbalance.amount, answers.moment.amount);
+            let within = exact.imbalance.apart(imbalance.into()) < area
+                && exact.moment.apart(moment.into()) <= area * i128::from(section.h);
+            assert!(within, "{section:?} at {x}: {answers:?} for {exact:?}");
+        }
+    }
+}
+
+/// The depths at which the exact imbalance and the next one are on the two sides of zero, each by the area or more.
+fn clear_changes(section: &Section) -> Vec<i64> {
+    let area = rules::area(section);
+    let side = |x| {
+        let exact = rules::exact(section, x).imbalance;
+        i32::from(exact >= area) - i32::from(exact <= -area)
+    };
+    let sides: Vec<i32> = (1..=section.h).map(side).collect();
+    let pairs = (1..).zip(sides.windows(2));
+    let clear = pairs.filter(|(_, pair)| pair[0] * pair[1] == -1);
+    clear.map(|(x, _)| x).collect()
+}
+
+#[test]
+fn a_clear_change_of_sign_is_listed() {
+    let mut clear = 0;
+    for (section, case) in some() {
+        let list = case.list.as_ref().unwrap();
+        for x in clear_changes(section) {
+            let listed = list.iter().any(|depth| depth[..2] == [x, 2]);
+            assert!(listed, "{section:?} at {x}: {list:?}");
+            clear += 1;
+        }
+    }
+    assert!(clear > 100);
+}
+
+#[test]
+fn the_depths_and_the_rows_reach_every_refusal() {
+    let (mut depths, mut rows) = (BTreeSet::new(), BTreeSet::new());
+    each_depth(|record, x| {
+        depths.insert(rules::amounts(record, x).imbalance.refusal);
+    });
+    each_row(|case, row| {
+        rows.insert(rules::write(&case.list, &mut row.to_vec()).refusal);
+    });
+    assert!(depths
+        .into_iter()
+        .eq([0].into_iter().chain(6..=13).chain([18])));
+    assert!(rows.into_iter().eq([0].into_iter().chain(6..=15)));
+}
+
+#[test]
+fn the_lists_reach_both_kinds_alone_and_among_several_and_the_last_depth() {
+    let mut reached = BTreeSet::new();
+    for (section, case) in ACCEPTED.iter() {
+        let list = case.list.as_ref().unwrap();
+        for [x, kind, _] in list {
+            reached.insert((*kind, *x == i64::from(section.h), list.len() > 2));
+        }
+    }
+    for kind in [1, 2] {
+        assert!(reached.contains(&(kind, false, false)));
+        assert!(reached.contains(&(kind, false, true)));
+    }
+    assert!(reached.contains(&(1, true, false)));
+}
+
+#[test]
+fn the_sections_reach_the_ends_of_their_ranges() {
+    let ends = |number: fn(&Section) -> i32| {
+        let numbers = ACCEPTED.iter().map(|(section, _)| number(section));
+        (numbers.clone().min().unwrap(), numbers.max().unwrap())
+    };
+    assert_eq!(ends(|section| section.b.into()), (50, 2000));
+    assert_eq!(ends(|section| section.h.into()), (50, 1000));
+    assert_eq!(ends(|section| section.fck.into()), (20, 50));
+    assert_eq!(ends(|section| section.fyk.into()), (400, 600));
+    assert_eq!(ends(|section| section.feq2.into()), (0, 20_000));
+    assert_eq!(ends(|section| section.feq3.into()), (0, 20_000));
+    assert_eq!(ends(|section| section.load), (-10_000_000, 10_000_000));
+    assert_eq!(ends(|section| section.layers.len() as i32), (0, 8));
+}
+
+/// The library is x86-64 code, so only there can a Rust program link it.
+#[cfg(target_arch = "x86_64")]
+mod linked {
+    use super::{each_depth, each_row, rules};
+    use rules::{Amount, Listed, Sums};
+
+    #[link(name = "panel", kind = "static")]
+    extern "C" {
+        fn fw_imbalance(record: *const u8, len: usize, x: u32) -> Amount;
+        fn fw_moment(record: *const u8, len: usize, x: u32) -> Amount;
+        fn fw_depths(record: *const u8, len: usize, row: *mut i64, words: usize) -> Listed;
+    }
+
+    #[test]
+    fn the_face_linked_gives_the_rules_imbalance_and_moment() {
+        each_depth(|record, x| {
+            // They read the record and touch no other memory of the caller's.
+            let amounts = unsafe {
+                Sums {
+                    imbalance: fw_imbalance(record.as_ptr(), record.len(), x),
+                    moment: fw_moment(record.as_ptr(), record.len(), x),
+                }
+            };
+            assert_eq!(amounts, rules::amounts(record, x), "{record:?} at {x}");
+        });
+    }
+
+    #[test]
+    fn the_face_linked_writes_the_rules_list() {
+        each_row(|case, before| {
+            let (record, mut row, mut after) = (&case.record, before.to_vec(), before.to_vec());
+            // It reads the record, writes the row and touches no other memory of the caller's.
+            let listed =
+                unsafe { fw_depths(record.as_ptr(), record.len(), row.as_mut_ptr(), row.len()) };
+            let right = (rules::write(&case.list, &mut after), after);
+            assert_eq!((listed, row), right, "{record:?} with {before:?}");
+        });
+    }
+}
