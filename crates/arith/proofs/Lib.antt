@@ -1,5 +1,6 @@
 pub mod Tests
 pub mod Signed
+pub mod Machine
 pub mod Sums
 pub mod Rounding
 pub mod Lists

@@ -9,7 +9,8 @@ use lib.IntN.{ℤ, pos, natAbs, _+ℤ_}
 use mir.Syntax.{w64}
 use mir.Val.{SFits, toZ, ofZ}
 use Rattle.arith.specs.Sums.{sumN, sumZ, prodN, after}
-use Rattle.arith.proofs.Signed.{abs-add, sfits-abs, read}
+use Rattle.arith.proofs.Signed.{abs-add}
+use Rattle.arith.proofs.Machine.{sfits-abs, read}
 
 -- the terms from one on, and one more
 pub run-next : (f : ℕ → ℕ) (from i : ℕ) → from ≤ i → sumN (i + 1 - from) (after from f) ≡ sumN (i - from) (after from f) + f i

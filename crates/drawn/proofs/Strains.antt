@@ -12,7 +12,7 @@ use mir.Val.{SFits, toZ, ofZ}
 use borrow.Author.Tests.{ltb-true, leb-true}
 use Rattle.arith.specs.Floats.{isNeg}
 use Rattle.arith.proofs.Tests.{both}
-use Rattle.arith.proofs.Signed.{read32}
+use Rattle.arith.proofs.Machine.{read32}
 use Rattle.law.specs.Edition.{edition}
 use Rattle.drawn.specs.Drawn.{inDrawnRange}
 

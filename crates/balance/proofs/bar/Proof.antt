@@ -8,7 +8,8 @@ use lib.Dec.{ltb}
 use lib.IntN.{pos}
 use borrow.Author.Tests.{lt-ltb, le-ltb}
 use borrow.Author.Needs.{needs}
-use Rattle.arith.proofs.Signed.{read-pos, minus-fits, read-minus, abs-neg}
+use Rattle.arith.proofs.Signed.{abs-neg}
+use Rattle.arith.proofs.Machine.{read-pos, minus-fits, read-minus}
 use Rattle.law.specs.Stress.{signed, size, rounded, bar}
 use Rattle.law.proofs.Bounds.{bar-most}
 use Rattle.strips.specs.Strips.{scaleOf}

@@ -6,7 +6,7 @@ use lib.IntN.{ℤ, pos, natAbs, _*ℤ_}
 use mir.Syntax.{w64}
 use mir.Val.{toZ}
 use borrow.Author.Needs.{needs}
-use Rattle.arith.proofs.Signed.{read}
+use Rattle.arith.proofs.Machine.{read}
 use Rattle.arith.proofs.Sums.{Running, running-none, running-fits, running-next, running-all}
 use Rattle.section.specs.declared.Section.{Section}
 use Rattle.law.specs.declared.Law.{Law}

@@ -4,7 +4,7 @@ use lib.IntN.{pos, _*ℤ_}
 use mir.Syntax.{w64}
 use mir.Val.{toZ}
 use borrow.Author.Needs.{needs}
-use Rattle.arith.proofs.Signed.{back, Stands, stands, stands-pos, stands-mul, stands-fits, stored, stands-for}
+use Rattle.arith.proofs.Machine.{back, Stands, stands, stands-pos, stands-mul, stands-fits, stored, stands-for}
 use Rattle.balance.specs.Code.{mostForce}
 use Rattle.balance.proofs.force.Statement.{statement}
 use Rattle.balance.proofs.force.Tie as tie

@@ -6,7 +6,7 @@ use lib.IntN.{ℤ, pos, _+ℤ_, _*ℤ_}
 use mir.Syntax.{w32}
 use mir.Val.{toZ, ofZ}
 use borrow.Author.Needs.{needs}
-use Rattle.arith.proofs.Signed.{back, Stands, returned, stands, stands-i32, stands-add, stands-sub, stands-mul, stands-fits, stored}
+use Rattle.arith.proofs.Machine.{back, Stands, returned, stands, stands-i32, stands-add, stands-sub, stands-mul, stands-fits, stored}
 use Rattle.law.specs.Law.{lawOf}
 use Rattle.law.specs.Stress.{rounded}
 use Rattle.balance.specs.Forces.{forces, loadOf, imbalance}

@@ -5,7 +5,7 @@ use native.Mathlib.Omega.{arith}
 use lib.IntN.{pos}
 use lib.ListN.{length, length-set, length-replicate}
 use borrow.Author.Needs.{needs}
-use Rattle.arith.proofs.Signed.{read}
+use Rattle.arith.proofs.Machine.{read}
 use Rattle.balance.specs.Code.{Kept}
 use Rattle.balance.proofs.Kept.{kept-next}
 use Rattle.balance.proofs.imbalances.Statement.{statement}

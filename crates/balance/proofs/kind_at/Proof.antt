@@ -6,7 +6,7 @@ use lib.IntN.{pos}
 use mir.Syntax.{w64}
 use mir.Val.{ofZ}
 use borrow.Author.Needs.{needs}
-use Rattle.arith.proofs.Signed.{read, bits-zero}
+use Rattle.arith.proofs.Machine.{read, bits-zero}
 use Rattle.balance.specs.Forces.{imbalance}
 use Rattle.balance.specs.Depths.{opposite}
 use Rattle.balance.proofs.Signs.{kind-one, kind-two, kind-none, kind-last}

@@ -4,7 +4,7 @@ use mathlib.Core.Path.{ap, _∙_}
 use native.Mathlib.Omega.{arith}
 use lib.IntN.{ℤ, _+ℤ_}
 use borrow.Author.Needs.{needs}
-use Rattle.arith.proofs.Signed.{back, Stands, returned, stands-add, stands-fits, stored}
+use Rattle.arith.proofs.Machine.{back, Stands, returned, stands-add, stands-fits, stored}
 use Rattle.balance.specs.Forces.{moments, moment}
 use Rattle.balance.specs.Code.{mostMoment}
 use Rattle.balance.proofs.moment_at.Statement.{statement}

@@ -7,7 +7,7 @@ use lib.IntN.{ℤ, pos, _+ℤ_, _*ℤ_}
 use mir.Syntax.{w64}
 use mir.Val.{toZ}
 use borrow.Author.Needs.{needs}
-use Rattle.arith.proofs.Signed.{back, Stands, given, stands-pos, stands-add, stands-mul, stands-fits, stored, stands-for}
+use Rattle.arith.proofs.Machine.{back, Stands, given, stands-pos, stands-add, stands-mul, stands-fits, stored, stands-for}
 use Rattle.strips.specs.Strips.{runOf}
 use Rattle.strips.proofs.Runs.{run-most}
 use Rattle.balance.proofs.Strips.{strips-are}

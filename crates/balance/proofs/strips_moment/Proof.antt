@@ -7,7 +7,7 @@ use lib.IntN.{pos, _*ℤ_}
 use mir.Syntax.{w64}
 use mir.Val.{toZ}
 use borrow.Author.Needs.{needs}
-use Rattle.arith.proofs.Signed.{read}
+use Rattle.arith.proofs.Machine.{read}
 use Rattle.arith.proofs.Sums.{Running, running-none, running-fits, running-next, running-all}
 use Rattle.law.specs.Law.{lawOf}
 use Rattle.law.specs.Stress.{rounded}

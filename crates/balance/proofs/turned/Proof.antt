@@ -4,7 +4,8 @@ use lib.IntN.{ℤ, pos, _-ℤ_, _*ℤ_}
 use mir.Syntax.{w64}
 use mir.Val.{toZ}
 use borrow.Author.Needs.{needs}
-use Rattle.arith.proofs.Signed.{back, Stands, stands, stands-mul, stands-fits, stored, stands-for, read-pos, lever-most}
+use Rattle.arith.proofs.Signed.{lever-most}
+use Rattle.arith.proofs.Machine.{back, Stands, stands, stands-mul, stands-fits, stored, stands-for, read-pos}
 use Rattle.balance.specs.Code.{mostForce, mostMoment}
 use Rattle.balance.proofs.turned.Statement.{statement}
 use Rattle.balance.proofs.turned.Tie as tie

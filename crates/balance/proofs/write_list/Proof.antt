@@ -7,7 +7,7 @@ use native.Mathlib.Omega.{arith}
 use lib.IntN.{pos}
 use lib.ListN.{length, drop, length-set}
 use borrow.Author.Needs.{needs}
-use Rattle.arith.proofs.Signed.{read, read-pos}
+use Rattle.arith.proofs.Machine.{read, read-pos}
 use Rattle.balance.specs.Forces.{moment}
 use Rattle.balance.specs.Depths.{kindAt, listTo, words}
 use Rattle.balance.proofs.Listed.{list-skips, count-more, count-grows}

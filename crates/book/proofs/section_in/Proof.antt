@@ -1,6 +1,6 @@
 -- `section_in`: field by field; the load is read back from its bits. Assumes nothing.
 use borrow.Author.Needs.{needs}
-use Rattle.arith.proofs.Signed.{read32}
+use Rattle.arith.proofs.Machine.{read32}
 use Rattle.book.specs.Record.{sectionIn}
 use Rattle.book.proofs.section_in.Statement.{statement}
 use Rattle.book.proofs.section_in.Tie as tie

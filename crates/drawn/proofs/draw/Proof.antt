@@ -3,7 +3,7 @@ use mathlib.Core.Path.{_≡_, sym, ap, _∙_}
 use mathlib.Core.Bool.{true}
 use borrow.Author.Tests.{not-true, not-false}
 use borrow.Author.Needs.{needs}
-use Rattle.arith.proofs.Signed.{read32}
+use Rattle.arith.proofs.Machine.{read32}
 use Rattle.drawn.specs.Drawn.{inDrawnRange}
 use Rattle.drawn.proofs.Strains.{drawn-size}
 use Rattle.drawn.proofs.Answers.{refuses-section, refuses-strain, draws}

@@ -1,5 +1,5 @@
 -- `drawable`: the edition's drawn range. Assumes nothing.
-use Rattle.arith.proofs.Signed.{read32}
+use Rattle.arith.proofs.Machine.{read32}
 use Rattle.law.specs.Edition.{edition}
 use Rattle.drawn.proofs.drawable.Statement.{statement}
 use Rattle.drawn.proofs.drawable.Tie as tie

@@ -6,7 +6,7 @@ use lib.IntN.{ℤ, pos, natAbs, _-ℤ_}
 use mir.Syntax.{w32}
 use mir.Val.{toZ, ofZ}
 use borrow.Author.Needs.{needs}
-use Rattle.arith.proofs.Signed.{read32}
+use Rattle.arith.proofs.Machine.{read32}
 use Rattle.arith.specs.Floats.{isNeg}
 use Rattle.drawn.specs.Pieces.{pieceAt}
 use Rattle.drawn.proofs.Strains.{size-fits, turned, kept}

@@ -1,7 +1,7 @@
 -- `fw_draw`: the record's refusal, then the section's answer. Assumes nothing.
 use mathlib.Core.Path.{ap, _∙_}
 use borrow.Author.Needs.{needs}
-use Rattle.arith.proofs.Signed.{read32}
+use Rattle.arith.proofs.Machine.{read32}
 use Rattle.drawn.specs.Drawn.{refused, drawnAnswer}
 use Rattle.panel.specs.Face.{drawnOf}
 use Rattle.panel.proofs.Records.{refuses-record, answers-record}

@@ -1,5 +1,6 @@
 -- `load_right`: a range that is the same both ways. Assumes nothing.
-use Rattle.arith.proofs.Signed.{read32, both-ways}
+use Rattle.arith.proofs.Signed.{both-ways}
+use Rattle.arith.proofs.Machine.{read32}
 use Rattle.section.proofs.load_right.Reads as reads
 use Rattle.section.proofs.load_right.Lts as lts
 use Rattle.section.proofs.load_right.Statement.{statement}

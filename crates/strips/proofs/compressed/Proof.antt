@@ -7,7 +7,7 @@ use native.Mathlib.Omega.{arith}
 use lib.IntN.{pos}
 use borrow.Author.Tests.{lt-leb}
 use borrow.Author.Needs.{needs}
-use Rattle.arith.proofs.Signed.{read-pos}
+use Rattle.arith.proofs.Machine.{read-pos}
 use Rattle.arith.proofs.Sums.{run-nil, run-middle}
 use Rattle.law.specs.Stress.{flat}
 use Rattle.law.specs.Sizes.{sizeIn}

@@ -5,7 +5,7 @@ use native.Mathlib.Omega.{arith}
 use lib.IntN.{pos, negℤ}
 use borrow.Author.Tests.{le-leb}
 use borrow.Author.Needs.{needs}
-use Rattle.arith.proofs.Signed.{minus-fits, read-minus}
+use Rattle.arith.proofs.Machine.{minus-fits, read-minus}
 use Rattle.arith.proofs.Sums.{run-late}
 use Rattle.strips.specs.Strips.{stripSize}
 use Rattle.strips.proofs.Runs.{strip-none}

@@ -4,7 +4,7 @@ use native.Mathlib.Omega.{arith}
 use lib.IntN.{pos, negℤ}
 use borrow.Author.Tests.{le-leb, lt-leb}
 use borrow.Author.Needs.{needs}
-use Rattle.arith.proofs.Signed.{read-pos, minus-fits, read-minus}
+use Rattle.arith.proofs.Machine.{read-pos, minus-fits, read-minus}
 use Rattle.strips.proofs.strip.Statement.{statement}
 use Rattle.strips.proofs.strip.Tie as tie
 

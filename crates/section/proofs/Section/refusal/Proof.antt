@@ -3,7 +3,7 @@ use mathlib.Core.Path.{_≡_}
 use mir.Syntax.{w32}
 use mir.Val.{toZ, ofZ}
 use borrow.Author.Needs.{needs}
-use Rattle.arith.proofs.Signed.{read32}
+use Rattle.arith.proofs.Machine.{read32}
 use Rattle.section.specs.Refusal.{sectionRefusal}
 use Rattle.section.proofs.Section.refusal.Statement.{statement}
 use Rattle.section.proofs.Section.refusal.Tie as tie
