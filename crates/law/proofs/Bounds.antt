@@ -28,8 +28,9 @@ ramp-most : (ea sa eb sb p q m : ℕ) → ea * q ≤ p → p ≤ eb * q → sa �
 unfolding size
 ramp-most ea sa eb sb p q m h k i j =
     let long : (eb - ea) * q ≡ (eb * q - p) + (p - ea * q) = sym (sub-scale eb ea q) ∙ omega arith in
-    NatL.div-le-of-le-mul ((eb - ea) * q)
-    (rw long (omega (arith, NatL.add-mul (eb * q - p) (p - ea * q) m, NatL.mul-comm (eb * q - p) m, NatL.mul-comm (p - ea * q) m, NatL.mul-le-mul-right (eb * q - p) i, NatL.mul-le-mul-right (p - ea * q) j)))
+    let first = NatL.mul-le-mul-right (eb * q - p) i in
+    let second = NatL.mul-le-mul-right (p - ea * q) j in
+    NatL.div-le-of-le-mul ((eb - ea) * q) (rw long (omega (arith, first, second, NatL.add-mul (eb * q - p) (p - ea * q) m)))
 
 -- (m - w) (m + w) is at most m m
 under-square : (p w m : ℕ) → p + w ≡ m → p * (m + w) ≤ m * m

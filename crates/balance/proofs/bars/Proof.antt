@@ -6,7 +6,7 @@ use lib.IntN.{ℤ, pos, natAbs, _*ℤ_}
 use mir.Syntax.{w64}
 use mir.Val.{toZ}
 use borrow.Author.Needs.{needs}
-use Rattle.arith.proofs.Machine.{read}
+use Rattle.arith.proofs.Machine.{read, back}
 use Rattle.arith.proofs.Sums.{Running, running-none, running-fits, running-next, running-all}
 use Rattle.section.specs.declared.Section.{Section}
 use Rattle.law.specs.declared.Law.{Law}
@@ -65,7 +65,8 @@ unfolding barMoment
 turned-is c =
     let f = c .before .before in
     let s = start f .args .t1 in
-    c .turned .ensures .0 ∙ ap (λ z. lever s (2 * depthAt s (at f)) *ℤ z) (read (record { sfits = f .force .ok }) ∙ force-is f)
+    let is : c .turned .result ≡ lever s (2 * depthAt s (at f)) *ℤ back (f .force .result) = c .turned .ensures .0 in
+    is ∙ ap (λ z. lever s (2 * depthAt s (at f)) *ℤ z) (read (record { sfits = f .force .ok }) ∙ force-is f)
 
 few : (c : tie.After-force Inv-loop μ-loop) → at c < 8
 few c = omega (arith, start c .pre .0 .few)

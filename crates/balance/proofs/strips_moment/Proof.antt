@@ -7,7 +7,7 @@ use lib.IntN.{pos, _*ℤ_}
 use mir.Syntax.{w64}
 use mir.Val.{toZ}
 use borrow.Author.Needs.{needs}
-use Rattle.arith.proofs.Machine.{read}
+use Rattle.arith.proofs.Machine.{read, back}
 use Rattle.arith.proofs.Sums.{Running, running-none, running-fits, running-next, running-all}
 use Rattle.law.specs.Law.{lawOf}
 use Rattle.law.specs.Stress.{rounded}
@@ -44,7 +44,8 @@ turned-is c =
     let i = c .before .before .before .before .loop .i in
     let f = c .before in
     let own = strip-is (a .section) (a .law) (a .axis) (p .0) (p .1) (p .2) i (leb (a .axis .x) i) refl in
-    c .turned .ensures .0
+    let is : c .turned .result ≡ lever (a .section) (2 * i + 1) *ℤ back (f .force .result) = c .turned .ensures .0 in
+    is
     ∙ ap (λ z. lever (a .section) (2 * i + 1) *ℤ z)
     (read (record { sfits = f .force .ok }) ∙ f .force .ensures .0
     ∙ ap (λ z. pos (widthAt (a .section) i) *ℤ z) (read (record { sfits = f .before .strip .ok }) ∙ f .before .strip .ensures ∙ own))
