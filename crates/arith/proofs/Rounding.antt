@@ -17,7 +17,7 @@ pub record Within (C : ℕ) (E T : ℤ) (A : ℕ) : Type 0 where
 pub within-exact : (C : ℕ) (T : ℤ) → Within C (pos C *ℤ T) T 0
 within-exact C T = record { within = rw (+ℤ-invr (pos C *ℤ T)) (omega arith) }
 
-pub within-none : (C : ℕ) → Within C (pos 0) (pos 0) 0
+within-none : (C : ℕ) → Within C (pos 0) (pos 0) 0
 within-none C = rw (NatL.mul-zero C) at (within-exact C (pos 0))
 
 pub within-floor : (C e t : ℕ) → C * t ≤ e → e < C * t + C → Within C (pos e) (pos t) 1

@@ -7,10 +7,9 @@ use native.Mathlib.Numerals.{add-one}
 use native.Mathlib.Omega.{arith}
 use lib.IntN.{ℤ, pos, natAbs, _+ℤ_}
 use mir.Syntax.{w64}
-use mir.Val.{SFits, toZ, ofZ}
+use mir.Val.{SFits}
 use Rattle.arith.specs.Sums.{sumN, sumZ, prodN, after}
-use Rattle.arith.proofs.Signed.{abs-add}
-use Rattle.arith.proofs.Machine.{sfits-abs, read}
+use Rattle.arith.proofs.Machine.{back, Stands, stands, stands-add, stands-fits, stored, returned, stands-for}
 
 -- the terms from one on, and one more
 pub run-next : (f : ℕ → ℕ) (from i : ℕ) → from ≤ i → sumN (i + 1 - from) (after from f) ≡ sumN (i - from) (after from f) + f i
@@ -26,13 +25,13 @@ runs-joined f from m zero = rw (NatL.add-zero m) (sym (NatL.add-zero (sumN m (af
 runs-joined f from m (suc n) = rw (NatL.add-suc m n, runs-joined f from m n, ← NatL.add-assoc from m n) (NatL.add-assoc (sumN m (after from f)) (sumN n (after (from + m) f)) (f (from + m + n)))
 
 -- a run, cut in two
-pub run-cut : (f : ℕ → ℕ) (from mid to : ℕ) → from ≤ mid → mid ≤ to → sumN (to - from) (after from f) ≡ sumN (mid - from) (after from f) + sumN (to - mid) (after mid f)
+run-cut : (f : ℕ → ℕ) (from mid to : ℕ) → from ≤ mid → mid ≤ to → sumN (to - from) (after from f) ≡ sumN (mid - from) (after from f) + sumN (to - mid) (after mid f)
 run-cut f from mid to h k =
     ap (λ n. sumN n (after from f)) (omega arith) ∙ runs-joined f from (mid - from) (to - mid)
     ∙ ap (λ n. sumN (mid - from) (after from f) + sumN (to - mid) (after n f)) (omega arith)
 
 -- a run of terms that are alike
-pub run-flat : (f : ℕ → ℕ) (c from n : ℕ) → ((i : ℕ) → from ≤ i → i < from + n → f i ≡ c) → sumN n (after from f) ≡ c * n
+run-flat : (f : ℕ → ℕ) (c from n : ℕ) → ((i : ℕ) → from ≤ i → i < from + n → f i ≡ c) → sumN n (after from f) ≡ c * n
 unfolding sumN
 run-flat f c from zero h = sym (NatL.mul-zero c)
 run-flat f c from (suc n) h = rw (run-flat f c from n (λ i p q. h i p (omega arith)), h (from + n) (omega arith) (omega arith)) (sym (NatL.mul-suc c n))
@@ -64,35 +63,38 @@ run-late f from start to h first =
     (λ z. omega (arith, run-cut f from start to h (omega arith), run-nil f from start first))
     (NatL.eq-zero-or-pos (to - start))
 
+pub sum-most : (n B : ℕ) (f : ℕ → ℕ) → ((i : ℕ) → f i ≤ B) → sumN n f ≤ B * n
+unfolding sumN
+sum-most zero B f h = omega arith
+sum-most (suc n) B f h = omega (arith, sum-most n B f h, h n, NatL.mul-suc B n)
+
 pub sum-none : (f : ℕ → ℤ) → sumZ 0 f ≡ pos 0
 unfolding sumZ
 sum-none f = refl
 
--- ---- a signed sum that a loop adds up: z is the sum of the first n terms, each of a size of at most B
+-- ---- a signed sum that a loop adds up: z stands for the sum of the first n terms, each of a size of at most B
 pub record Running (f : ℕ → ℤ) (B n : ℕ) (z : ℤ) : Type 0 where
-  pub is : z ≡ sumZ n f
-  pub most : natAbs z ≤ B * n
+  pub sum : Stands z (sumZ n f) (B * n)
 
 pub running-none : (f : ℕ → ℤ) (B : ℕ) → Running f B 0 (pos 0)
-running-none f B = record { is = sym (sum-none f); most = omega arith }
+unfolding sumZ
+running-none f B = record { sum = stands (pos 0) (B * 0) (omega arith) }
 
 module _ {f : ℕ → ℤ} {B n : ℕ} {z : ℤ} (h : Running f B n z) (r : ℤ) (is : r ≡ f n) (most : natAbs r ≤ B) (room : B * (n + 1) < 2 ^ 63) where
-  more : Running f B (n + 1) (z +ℤ r)
+  more : Stands (z +ℤ back r) (sumZ (n + 1) f) (B * (n + 1))
   unfolding sumZ
-  more = record { is = rw add-one (λ i. h .is i +ℤ is i); most = omega (arith, abs-add z r, h .most, NatL.mul-add B n 1) }
+  more = rw (add-one, NatL.mul-suc B n) (stands-add (h .sum) (returned B is most (omega (arith, NatL.mul-add B n 1))))
 
-  -- the term as the machine reads it back
-  back : toZ w64 (ofZ w64 r) ≡ r
-  back = read (sfits-abs r (omega (arith, most, NatL.mul-add B n 1)))
+  pub running-fits : SFits w64 (z +ℤ back r)
+  running-fits = stands-fits more room
 
-  pub running-fits : SFits w64 (z +ℤ toZ w64 (ofZ w64 r))
-  running-fits = rw back (sfits-abs (z +ℤ r) (omega (arith, more .most)))
-
-  pub running-next : Running f B (n + 1) (toZ w64 (ofZ w64 (z +ℤ toZ w64 (ofZ w64 r))))
-  running-next = rw (read running-fits, back) more
+  pub running-next : Running f B (n + 1) (back (z +ℤ back r))
+  running-next = record { sum = stored more room }
 
 pub running-all : {f : ℕ → ℤ} {B n : ℕ} {z : ℤ} (m M : ℕ) → Running f B n z → n ≡ m → m ≤ M → (z ≡ sumZ m f) × (natAbs z ≤ B * M)
-running-all {f} {B} {n} m M h e k = (h .is ∙ ap (λ i. sumZ i f) e, omega (arith, h .most, ap (λ i. B * i) e, NatL.mul-le-mul-left B k))
+running-all {f} {B} {n} m M h e k =
+    let s = stands-for (h .sum) in
+    (s .0 ∙ ap (λ i. sumZ i f) e, omega (arith, s .1, ap (λ i. B * i) e, NatL.mul-le-mul-left B k))
 
 -- ---- where the terms are positive; and each factor divides the product
 pub sum-positive : (n : ℕ) (f : ℕ → ℕ) → 0 < n → ((i : ℕ) → i < n → 0 < f i) → 0 < sumN n f

@@ -1,15 +1,15 @@
 -- The strips' forces of a section, from what the crate of strips answers. Assumes nothing.
 use Prim.Native.Nat.{ℕ, zero, suc, _+_, _*_, _-_, _≤_, _<_}
-use mathlib.Core.Path.{_≡_, refl, sym, ap, _∙_}
+use mathlib.Core.Path.{_≡_, sym, ap, _∙_}
 use mathlib.Core.Bool.{Bool, true, false}
 use native.Mathlib.Nat as NatL
 use native.Mathlib.Omega.{arith}
 use lib.Dec.{leb}
-use lib.IntN.{ℤ, pos, negℤ, _+ℤ_, _*ℤ_, +ℤ-idl, +ℤ-idr, +ℤ-assoc}
+use lib.IntN.{ℤ, pos, _+ℤ_, _*ℤ_, +ℤ-idl, +ℤ-idr, +ℤ-assoc}
 use borrow.Author.Tests.{le-leb, lt-leb}
 use Rattle.arith.specs.Sums.{sumN, sumZ, after}
 use Rattle.arith.proofs.Sums.{sum-none}
-use Rattle.arith.proofs.Signed.{same, parts-add, up-neg, dn-neg, mul-add}
+use Rattle.arith.proofs.Signed.{mul-add}
 use Rattle.section.specs.declared.Section.{Section}
 use Rattle.section.specs.Accepted.{Accepted}
 use Rattle.law.specs.declared.Law.{Law}
@@ -17,16 +17,13 @@ use Rattle.law.specs.Law.{lawOf}
 use Rattle.law.specs.Stress.{signed, rounded}
 use Rattle.law.specs.Sizes.{small}
 use Rattle.law.proofs.Sizes.{small-law}
+use Rattle.law.proofs.Sides.{signed-add}
 use Rattle.strips.specs.declared.Axis.{Axis}
 use Rattle.strips.specs.Strips.{strip, scaleOf, stripSize, runOf}
 use Rattle.strips.proofs.Runs.{strip-rounded}
 use Rattle.balance.specs.Forces.{strainScale, stripStress, stripForce}
 
 -- ---- a run of strips of one width and one side
-signed-add : (pulls : Bool) (m n : ℕ) → signed pulls (m + n) ≡ signed pulls m +ℤ signed pulls n
-signed-add true m n = same _ _ (omega (arith, parts-add (negℤ (pos m)) (negℤ (pos n)), up-neg (pos m), dn-neg (pos m), up-neg (pos n), dn-neg (pos n), up-neg (pos (m + n)), dn-neg (pos (m + n))))
-signed-add false m n = refl
-
 nothing : (w : ℕ) (pulls : Bool) → pos w *ℤ signed pulls 0 ≡ pos 0
 nothing w true = ap pos (NatL.mul-zero w)
 nothing w false = ap pos (NatL.mul-zero w)

@@ -10,12 +10,12 @@ use lib.Dec.{ltb, leb}
 use lib.IntN.{ℤ, pos, natAbs, _-ℤ_, _*ℤ_}
 use lib.ListN.{length}
 use borrow.Author.Tests.{lt-ltb}
-use Rattle.arith.proofs.Signed.{mul-neg}
 use Rattle.section.specs.declared.Section.{Section}
 use Rattle.section.specs.Refusal.{line, sectionRefusal}
 use Rattle.section.proofs.Accepted.{accepted}
 use Rattle.law.specs.Law.{lawOf}
 use Rattle.law.specs.Stress.{Stress, signed}
+use Rattle.law.proofs.Sides.{signed-scale}
 use Rattle.balance.specs.Forces.{area, stripStress, barStress, imbalance, moment}
 use Rattle.balance.specs.Depths.{Entry, kindAt, lastDepth, listed, Balances, Rising}
 use Rattle.balance.specs.Exact.{exactOver, SameOver, common, exactImbalance, exactMoment, ClearlyAbove, ClearlyBelow}
@@ -68,10 +68,6 @@ moment-close s x ok from = omega (arith, moment-within (accepted s ok) from .wit
 -- they have a denominator, and over it each stress is the fraction that it is
 pub common-positive : (s : Section) (x : ℕ) → sectionRefusal s ≡ 0 → 1 ≤ x → 0 < common s x
 common-positive s x ok from = Rounded.common-positive (accepted s ok) from
-
-signed-scale : (d n : ℕ) (pulls : Bool) → pos d *ℤ signed pulls n ≡ signed pulls (d * n)
-signed-scale d n true = mul-neg (pos d) (pos n)
-signed-scale d n false = refl
 
 pub exact-same : (C : ℕ) (t : Stress) → t .den ∣ C → SameOver C t
 unfolding exactOver

@@ -23,17 +23,20 @@ answered amount = record { refusal = 0; amount = amount }
 abbrev pub noAmount : ℕ → Amount
 noAmount number = record { refusal = number; amount = pos 0 }
 
-unfoldable pub imbalanceAnswer : Section → ℕ → Amount
-imbalanceAnswer s x = unlessRefused (gridRefusal s x) (answered (imbalance s x)) noAmount
+unfoldable pub amountAnswer : Section → ℕ → ℤ → Amount
+amountAnswer s x amount = unlessRefused (gridRefusal s x) (answered amount) noAmount
 
-unfoldable pub momentAnswer : Section → ℕ → Amount
-momentAnswer s x = unlessRefused (gridRefusal s x) (answered (moment s x)) noAmount
+abbrev pub imbalanceAnswer : Section → ℕ → Amount
+imbalanceAnswer s x = amountAnswer s x (imbalance s x)
+
+abbrev pub momentAnswer : Section → ℕ → Amount
+momentAnswer s x = amountAnswer s x (moment s x)
 
 -- ---- the list, into a row of so many words: 7 to 13, then 14 where there is no depth to list, then 15 where the row is shorter than three words a depth
 unfoldable pub listRefusal : Section → ℕ → ℕ
 listRefusal s room = firstOf (sectionRefusal s) (line (ltb 0 (length (listed s))) 14 (line (leb (3 * length (listed s)) room) 15 0))
 
--- a section or a record that is refused has no list
+-- where nothing is listed
 abbrev pub unlisted : ℕ → Listing
 unlisted number = record { refusal = number; count = 0 }
 

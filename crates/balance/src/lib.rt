@@ -1,6 +1,7 @@
 // Where the forces of a section balance: the imbalance and the moment at a depth, and the list of every depth (document 01, 'Strains, strips and
 // balance').
 ghost use mathlib.Core.Path.{_≡_};
+ghost use mathlib.Core.Bool.{cond};
 ghost use mathlib.Core.List.{_++_};
 ghost use Prim.Native.Nat.{_+_, _*_, _-_, _≤_, _<_};
 ghost use lib.IntN.{pos, natAbs, _-ℤ_, _*ℤ_};
@@ -13,7 +14,7 @@ ghost use Rattle.strips.specs.Strips.{scaleOf};
 ghost use Rattle.balance.specs.Forces.{strainScale, barAt, stripForce, stripMoment, imbalance, moment};
 ghost use Rattle.balance.specs.Depths.{lastDepth, opposite, kindAt, listed, words};
 ghost use Rattle.balance.specs.Code.{mostForce, mostMoment, BarSums, Kept};
-ghost use Rattle.balance.specs.Answers.{gridRefusal, noAmount, imbalanceAnswer, momentAnswer, listAnswer, rowAfter};
+ghost use Rattle.balance.specs.Answers.{noAmount, amountAnswer, imbalanceAnswer, momentAnswer, unlisted, listAnswer, rowAfter};
 use law::Law;
 use section::Section;
 use strips::Axis;
@@ -149,21 +150,6 @@ fn moment_at(section: Section, law: Law, x: u16) -> i64
     strips_moment(section, law, axis) + bars.moment
 }
 
-// The refusal of a call at a depth: 7 to 13, then 18, or 0.
-fn grid_refusal(section: Section, x: u32) -> u32
-    ensures { λ r. ⌜ r ≡ gridRefusal section x ⌝ }
-{
-    let refusal = section.refusal();
-    if refusal != 0 {
-        return refusal;
-    }
-    if (1 <= x) & (x <= section.h as u32) {
-        0
-    } else {
-        18
-    }
-}
-
 impl Amount {
     // A refusal's number beside zero.
     pub fn refused(number: u32) -> Amount
@@ -176,34 +162,53 @@ impl Amount {
     }
 }
 
+impl Listing {
+    // A refusal's number beside no depth.
+    pub fn refused(number: u32) -> Listing
+        ensures { λ r. ⌜ r ≡ unlisted number ⌝ }
+    {
+        Listing {
+            refusal: number,
+            count: 0,
+        }
+    }
+}
+
+// The moment at a depth where it is the turning that is asked for, else the imbalance; or 7 to 13, then 18, and zero.
+fn amount_at(section: Section, x: u32, turning: bool) -> Amount
+    ensures { λ r. ⌜ r ≡ amountAnswer section x (cond turning (moment section x) (imbalance section x)) ⌝ }
+{
+    let answer = Law::of(section);
+    if answer.refusal != 0 {
+        return Amount::refused(answer.refusal);
+    }
+    if !((1 <= x) & (x <= section.h as u32)) {
+        return Amount::refused(18);
+    }
+    let depth = x as u16;
+    let amount = if turning {
+        moment_at(section, answer.law, depth)
+    } else {
+        imbalance_at(section, answer.law, depth)
+    };
+    Amount {
+        refusal: 0,
+        amount: amount,
+    }
+}
+
 // Compression forces minus tension forces minus the axial load, in mN, with the neutral axis at depth x; or 7 to 13, then 18, and zero.
 pub fn imbalance(section: Section, x: u32) -> Amount
     ensures { λ r. ⌜ r ≡ imbalanceAnswer section x ⌝ }
 {
-    let refusal = grid_refusal(section, x);
-    if refusal != 0 {
-        return Amount::refused(refusal);
-    }
-    let answer = Law::of(section);
-    Amount {
-        refusal: 0,
-        amount: imbalance_at(section, answer.law, x as u16),
-    }
+    amount_at(section, x, false)
 }
 
 // The moment about mid-height, in mN half-mm, positive where the compressed face is on top; refused likewise.
 pub fn moment(section: Section, x: u32) -> Amount
     ensures { λ r. ⌜ r ≡ momentAnswer section x ⌝ }
 {
-    let refusal = grid_refusal(section, x);
-    if refusal != 0 {
-        return Amount::refused(refusal);
-    }
-    let answer = Law::of(section);
-    Amount {
-        refusal: 0,
-        amount: moment_at(section, answer.law, x as u16),
-    }
+    amount_at(section, x, true)
 }
 
 fn opposite(a: i64, b: i64) -> bool
@@ -291,19 +296,13 @@ pub fn depths(section: Section, row: &mut [i64]) -> Listing
 {
     let answer = Law::of(section);
     if answer.refusal != 0 {
-        return Listing {
-            refusal: answer.refusal,
-            count: 0,
-        };
+        return Listing::refused(answer.refusal);
     }
     let law = answer.law;
     let kept = imbalances(section, law);
     let count = listed_count(section, &kept);
     if count == 0 {
-        return Listing {
-            refusal: 14,
-            count: 0,
-        };
+        return Listing::refused(14);
     }
     if row.len() < 3 * (count as usize) {
         return Listing {

@@ -28,6 +28,8 @@ use Rattle.strips.proofs.stretched.Kinds as Stretched
 use Rattle.strips.proofs.stretched.Reads as StretchedReads
 use Rattle.balance.proofs.Amount.refused.Kinds as AmountRefused
 use Rattle.balance.proofs.Amount.refused.Reads as AmountRefusedReads
+use Rattle.balance.proofs.Listing.refused.Kinds as ListingRefused
+use Rattle.balance.proofs.Listing.refused.Reads as ListingRefusedReads
 use Rattle.balance.proofs.imbalance.Kinds as Imbalance
 use Rattle.balance.proofs.imbalance.Reads as ImbalanceReads
 use Rattle.balance.proofs.moment.Kinds as Moment
@@ -91,6 +93,9 @@ stretched-decided κs a x y e f p q = p ∙ sym q
 
 pub amount-refused-decided : Decided AmountRefused.ps AmountRefused.r AmountRefusedReads.Learnt
 amount-refused-decided κs a x y e f p q = p ∙ sym q
+
+pub listing-refused-decided : Decided ListingRefused.ps ListingRefused.r ListingRefusedReads.Learnt
+listing-refused-decided κs a x y e f p q = p ∙ sym q
 
 pub imbalance-decided : Decided Imbalance.ps Imbalance.r ImbalanceReads.Learnt
 imbalance-decided κs a x y e f p q = p ∙ sym q

@@ -3,7 +3,7 @@ use Prim.Native.Nat.{ℕ, zero, suc, _+_, _*_, _-_, _≤_}
 use mathlib.Core.Path.{_≡_, refl, sym, ap, _∙_}
 use native.Mathlib.Nat as NatL
 use native.Mathlib.Omega.{arith}
-use lib.IntN.{ℤ, pos, negℤ, natAbs, _+ℤ_, _-ℤ_, _*ℤ_, negℤ-negℤ, negℤ-+ℤ, +ℤ-comm}
+use lib.IntN.{pos, negℤ, _+ℤ_, _-ℤ_, _*ℤ_, negℤ-negℤ, negℤ-+ℤ, +ℤ-comm}
 use borrow.Author.Tests.{le-ltb}
 
 pub less : (a b : ℕ) → b ≤ a → pos a -ℤ pos b ≡ pos (a - b)
@@ -19,7 +19,3 @@ times (suc s) v = refl
 
 pub plus : (a b : ℕ) → negℤ (pos a) +ℤ negℤ (pos b) ≡ negℤ (pos (a + b))
 plus a b = sym (negℤ-+ℤ (pos a) (pos b))
-
-pub size-of : (n : ℕ) → natAbs (negℤ (pos n)) ≡ n
-size-of zero = refl
-size-of (suc n) = refl

@@ -9,6 +9,7 @@ use lib.Ieee.{Float, binary64, add, sub, mul, div}
 use Rattle.arith.specs.Floats.{whole, frac}
 use Rattle.arith.proofs.Floats.{whole-is, Loose, add-loose, sub-whole, mul-nonneg, mul-loose, div-whole}
 use Rattle.arith.proofs.Products.{narrow-product}
+use Rattle.arith.proofs.Signed.{abs-neg}
 use Rattle.law.specs.declared.Law.{Law}
 use Rattle.law.specs.Ranges.{Lawful}
 use Rattle.law.specs.Stress.{Stress, flat, ramp, parabola, compressed, stretched}
@@ -17,20 +18,20 @@ use Rattle.drawn.specs.declared.Piece.the-variants.{Flat, Parabola}
 use Rattle.drawn.specs.Drawn.{stressAt, drawnStress}
 use Rattle.drawn.specs.Pieces.{evaluated, below, down, pieceAt}
 use Rattle.drawn.proofs.Cases.{compressed-by, stretched-by}
-use Rattle.drawn.proofs.Ends.{less, between, times, plus, size-of}
+use Rattle.drawn.proofs.Ends.{less, between, times, plus}
 
 -- ---- a ramp
 -- the difference of two numbers below zero
 apart : (a b : ℕ) → a ≤ b → b < 65536 → sub binary64 (below a) (below b) ≡ whole (pos (b - a))
 apart a b h k =
-    sub-whole (negℤ (pos a)) (negℤ (pos b)) (omega (arith, size-of a)) (omega (arith, size-of b)) ∙ ap whole (between a b h)
+    sub-whole (negℤ (pos a)) (negℤ (pos b)) (omega (arith, abs-neg (pos a))) (omega (arith, abs-neg (pos b))) ∙ ap whole (between a b h)
 
 -- a sum that is whole so far, and one more product below zero
 further : (a s v : ℕ) → a < 4294967296 → s < 65536 → v < 65536 → add binary64 (below a) (mul binary64 (below s) (whole (pos v))) ≡ below (a + s * v)
 further a s v h k j =
     let q = narrow-product s v k j in
-    let loose = subst (λ (w : ℤ). Loose (mul binary64 (below s) (whole (pos v))) w) (times s v) (mul-loose (negℤ (pos s)) (pos v) (omega (arith, size-of s)) (omega arith)) in
-    add-loose (negℤ (pos a)) (negℤ (pos (s * v))) _ (omega (arith, size-of a)) (omega (arith, size-of (s * v))) loose ∙ ap whole (plus a (s * v))
+    let loose = subst (λ (w : ℤ). Loose (mul binary64 (below s) (whole (pos v))) w) (times s v) (mul-loose (negℤ (pos s)) (pos v) (omega (arith, abs-neg (pos s))) (omega arith)) in
+    add-loose (negℤ (pos a)) (negℤ (pos (s * v))) _ (omega (arith, abs-neg (pos a))) (omega (arith, abs-neg (pos (s * v)))) loose ∙ ap whole (plus a (s * v))
 
 module _ (ea sa eb sb p : ℕ) (long : ea < eb) (from : ea ≤ p) (to : p ≤ eb) (E : eb < 65536) (A : sa < 65536) (B : sb < 65536) where
   ramp-exact : evaluated (down ea sa eb sb) (below p) ≡ drawnStress (ramp ea sa eb sb p 1)
@@ -48,7 +49,7 @@ module _ (ea sa eb sb p : ℕ) (long : ea < eb) (from : ea ≤ p) (to : p ≤ eb
       (apart ea eb (omega arith) E i))
       ∙ ap (λ (x : Float). div binary64 (add binary64 x (mul binary64 (below sa) (whole (pos u)))) (whole (pos (eb - ea)))) (further 0 sb v (omega arith) B (omega arith))
       ∙ ap (λ (x : Float). div binary64 x (whole (pos (eb - ea)))) (further (0 + sb * v) sa u (omega arith) A (omega arith))
-      ∙ div-whole (negℤ (pos n)) (eb - ea) (omega arith) (omega (arith, size-of n)) (omega arith)
+      ∙ div-whole (negℤ (pos n)) (eb - ea) (omega arith) (omega (arith, abs-neg (pos n))) (omega arith)
       ∙ (λ i. frac (negℤ (pos (num i))) (sym (NatL.mul-one (eb - ea)) i))
 
 -- ---- the parabola

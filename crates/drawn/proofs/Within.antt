@@ -1,13 +1,14 @@
 -- A drawn point holds the strain that was asked for, and its stress is within one millionth of a kPa of the exact fraction. Assumes nothing.
 use Prim.Native.Nat.{ℕ, suc, _*_, _-_, _^_, _≤_, _<_}
-use mathlib.Core.Path.{_≡_, refl}
+use mathlib.Core.Path.{_≡_}
 use mathlib.Core.Bool.{Bool, true, false}
 use native.Mathlib.Nat as NatL
 use native.Mathlib.Omega.{arith}
-use lib.IntN.{ℤ, pos, negsuc, natAbs}
+use lib.IntN.{ℤ, pos, negsuc}
 use Rattle.arith.specs.Floats.{Near}
 use Rattle.arith.proofs.Floats.{holds}
 use Rattle.arith.proofs.Nearest.{near-frac}
+use Rattle.law.proofs.Sides.{abs-signed}
 use Rattle.section.specs.declared.Section.{Section}
 use Rattle.section.specs.Refusal.{line, sectionRefusal}
 use Rattle.section.proofs.Lines.{passed, none-of}
@@ -21,7 +22,6 @@ use Rattle.law.proofs.Ranges.{law-in}
 use Rattle.law.proofs.Sizes.{law-small}
 use Rattle.drawn.specs.Drawn.{stressAt, drawnStress, PointNear, inDrawnRange, drawnRefusal, drawnAnswer}
 use Rattle.drawn.proofs.Cases.{compressed-by, stretched-by}
-use Rattle.drawn.proofs.Ends.{size-of}
 use Rattle.drawn.proofs.Strains.{drawn-size}
 
 -- a fraction that f64 comes so near to
@@ -31,11 +31,7 @@ record Fine (t : Stress) : Type 0 where
   low : t .num < t .den * 2 ^ 20
 
 near : (t : Stress) → Fine t → Near (drawnStress t) (signed (t .pulls) (t .num)) (t .den)
-near t f = near-frac (signed (t .pulls) (t .num)) (t .den) (f .some) (f .short) (rw (sized (t .pulls) (t .num)) (f .low))
-  where
-    sized : (c : Bool) (n : ℕ) → natAbs (signed c n) ≡ n
-    sized true n = size-of n
-    sized false n = refl
+near t f = near-frac (signed (t .pulls) (t .num)) (t .den) (f .some) (f .short) (rw (abs-signed (t .pulls) (t .num)) (f .low))
 
 module _ (ea sa eb sb p : ℕ) (long : ea < eb) (from : ea ≤ p) (to : p ≤ eb) (E : eb < 65536) (A : sa < 65536) (B : sb < 65536) where
   ramp-fine : Fine (ramp ea sa eb sb p 1)

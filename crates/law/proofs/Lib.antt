@@ -3,3 +3,4 @@ pub mod Answers
 pub mod Sizes
 pub mod Bounds
 pub mod Continuous
+pub mod Sides

@@ -59,10 +59,7 @@ pub extern "C" fn fw_depths(part: &[u8], row: &mut [i64]) -> Listing
 {
     let answer = book::section_of(part);
     if answer.refusal != 0 {
-        return Listing {
-            refusal: answer.refusal,
-            count: 0,
-        };
+        return Listing::refused(answer.refusal);
     }
     balance::depths(answer.section, row)
 }

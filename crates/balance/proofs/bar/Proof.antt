@@ -11,10 +11,10 @@ use borrow.Author.Needs.{needs}
 use Rattle.arith.proofs.Signed.{abs-neg}
 use Rattle.arith.proofs.Machine.{read-pos, minus-fits, read-minus}
 use Rattle.law.specs.Stress.{signed, size, rounded, bar}
+use Rattle.law.proofs.Sides.{bar-rounded}
 use Rattle.law.proofs.Bounds.{bar-most}
 use Rattle.strips.specs.Strips.{scaleOf}
 use Rattle.balance.specs.Forces.{barAt}
-use Rattle.balance.proofs.Strains.{bar-rounded}
 use Rattle.balance.proofs.bar.Statement.{statement}
 use Rattle.balance.proofs.bar.Tie as tie
 

@@ -9,7 +9,9 @@ use Rattle.balance.proofs.depths.Statement.{statement}
 use Rattle.balance.proofs.depths.Tie as tie
 
 returns : tie.Need-returns
-returns c = refuses-list _ _ (c .before .before .of .ensures) (c .before .before .before .args .row .now) (c .if1 .taken)
+returns c =
+    let w = refuses-list _ _ (c .before .before .before .of .ensures) (c .before .before .before .before .args .row .now) (c .before .if1 .taken) in
+    (c .refused .ensures ∙ w .0, w .1)
 
 -- a section that is not refused, and its law
 met : (c : tie.Else1) → let s = c .before .before .before .args .section in Accepted s × (c .before .before .of .result .law ≡ lawOf s)
@@ -17,9 +19,10 @@ met c = passes _ _ (c .before .before .of .ensures) (c .if1 .left)
 
 returns-2 : tie.Need-returns-2
 returns-2 c =
-    let n = c .before .listed-count in
-    let s = c .before .before .before .before .before in
-    lists-none _ _ (s .before .before .of .ensures) (s .before .before .before .args .row .now) (n .result) (n .ensures .0) (s .if1 .left) (c .if2 .taken)
+    let n = c .before .before .listed-count in
+    let s = c .before .before .before .before .before .before in
+    let w = lists-none _ _ (s .before .before .of .ensures) (s .before .before .before .args .row .now) (n .result) (n .ensures .0) (s .if1 .left) (c .before .if2 .taken) in
+    (c .refused2 .ensures ∙ w .0, w .1)
 
 returns-3 : tie.Need-returns-3
 returns-3 c =
@@ -46,9 +49,11 @@ depths-spec =
     tie.close
     (tie.spec
     (λ c κs. search needs)
+    (λ c κs. search needs)
     returns
     (λ c κs. met (c .before))
     (λ c κs. (met (c .before .before .before) .0, c .before .imbalances .ensures))
+    (λ c κs. search needs)
     returns-2
     (λ c. search needs)
     (λ c. search needs)

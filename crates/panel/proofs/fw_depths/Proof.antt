@@ -11,9 +11,10 @@ use Rattle.panel.proofs.fw_depths.Tie as tie
 returns : tie.Need-returns
 unfolding listOf rowOf
 returns c =
-    let row = c .before .before .before .before .args .row .now in
-    let a = c .before .before .section-of in
-    (refuses-record _ (λ s. listAnswer s (length row)) unlisted _ (a .ensures) (c .if1 .taken), refuses-record _ (λ s. rowAfter s row) (λ number. row) _ (a .ensures) (c .if1 .taken))
+    let row = c .before .before .before .before .before .args .row .now in
+    let a = c .before .before .before .section-of in
+    let t = c .before .if1 .taken in
+    (c .refused .ensures ∙ refuses-record _ (λ s. listAnswer s (length row)) unlisted _ (a .ensures) t, refuses-record _ (λ s. rowAfter s row) (λ number. row) _ (a .ensures) t)
 
 returns-2 : tie.Need-returns-2
 unfolding listOf rowOf
@@ -25,4 +26,4 @@ returns-2 c =
     (e .0 ∙ answers-record _ (λ s. listAnswer s (length row)) unlisted _ (a .ensures) t, e .1 ∙ answers-record _ (λ s. rowAfter s row) (λ number. row) _ (a .ensures) t)
 
 pub fw-depths-spec : {M : Type 1} → statement M
-fw-depths-spec = tie.close (tie.spec (λ c κs. search needs) returns (λ c κs. search needs) (λ c. search needs) returns-2)
+fw-depths-spec = tie.close (tie.spec (λ c κs. search needs) (λ c κs. search needs) returns (λ c κs. search needs) (λ c. search needs) returns-2)
