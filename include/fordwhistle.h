@@ -15,6 +15,7 @@
  *   13  stirrups without spacing: Asw is not 0 and s is
  *   14  no depth to list
  *   15  row shorter than three words a listed depth; the count beside it is the number of listed depths
+ *   16  shear without bars: m is 0
  *   17  fR1 is below 1000 kPa, or fR3 is below half the step
  *   18  strain outside -10000 to 3500, or a depth that is not on the grid, 1 to h
  *
@@ -88,6 +89,13 @@ typedef struct {
 /* The point of a record's section at a whole strain. Refusal 6, then 7 to 13, then 18; strain and stress are then plus zero. */
 fw_drawn fw_draw(const uint8_t *record, size_t len, int32_t strain);
 
+/* A number of a section.
+ * amount: the imbalance, the moment or the shear resistance, by the function that returns it; each is said before that function. */
+typedef struct {
+    uint32_t refusal;
+    int64_t amount;
+} fw_amount;
+
 /* The balance of a section with its neutral axis at a depth x from the compressed face, a whole one from 1 to h: the grid.
  *
  * Where 7d > 27x the strain at depth y is 10000 (x - y) / (d - x), else 3500 (x - y) / x, with d as above. It stays an exact fraction.
@@ -98,10 +106,6 @@ fw_drawn fw_draw(const uint8_t *record, size_t len, int32_t strain);
  *
  * imbalance: compression forces minus tension forces minus the axial load, in mN.
  * moment: about mid-height, the sum of each force times twice its distance, in mN half-mm; positive where the compressed face is on top. */
-typedef struct {
-    uint32_t refusal;
-    int64_t amount;
-} fw_amount;
 
 /* The imbalance of a record's section at depth x. Refusal 6, then 7 to 13, then 18 where x is 0 or more than h; amount is then 0. */
 fw_amount fw_imbalance(const uint8_t *record, size_t len, uint32_t x);
@@ -123,6 +127,22 @@ typedef struct {
  * row is a pointer, never null, to as many words as said that may be read and written; none of them is part of the record. words is any
  * number, 0 too. 3 h words hold every list of a section of height h, so 3000 the list of any section. */
 fw_listed fw_depths(const uint8_t *record, size_t len, int64_t *row, size_t words);
+
+/* The shear of a section with bars. d and fyd are as above, As is the area of the layers below mid-height (twice the depth is more than
+ * h), N is the axial load in mN, 1000 times the record's. Each quotient is rounded down to a whole number before it is used, and so the
+ * share of a tensile load towards minus infinity:
+ *   k = 1000 + r, at most 2000, with the largest r such that r x r x d is at most 200000000
+ *   c = the largest such that c x c x c x b d is at most 100000000000 As fck; where 50 As > b d, that c x c x c is at most 2000000000 fck
+ *   concrete = 12 k c / 100000 + 15 N / (100 b h), at least 0
+ *   fibres = t x max(1000, 1600 - d) / 1000, with t = 12 feq3 / 100
+ *   stirrups = 9 Asw d fyd / (10 s), or 0 where Asw is 0
+ *   struts = max(500, 700 - 5 fck) x (2000 fck / 3) x 9 b d / 20000
+ *
+ * shear resistance: the lesser of (concrete + fibres) x b d + stirrups and struts, in mN; 0 or more. */
+
+/* The shear resistance of a record's section. Refusal 6, then 7 to 13, then 16; amount is then 0. Where nothing is refused it is 0 too
+ * if tension takes all that the concrete bears and neither fibres nor stirrups bear anything. */
+fw_amount fw_shear(const uint8_t *record, size_t len);
 
 #ifdef __cplusplus
 }

@@ -3,14 +3,9 @@
 #include "fordwhistle.h"
 
 #include "check.h"
-#include "record.h"
+#include "sections.h"
 
 enum { ROOM = 32 };
-
-/* The two records of document 01's book. */
-static const section plate = {.b = 1000, .h = 100, .fck = 30, .fyk = 500, .feq2 = 3700, .feq3 = 4500};
-static const section beam = {.b = 400, .h = 600, .fck = 30, .fyk = 500, .feq2 = 2000, .feq3 = 2000, .load = 10000000, .m = 1,
-                             .layers = {{540, 3216}}};
 
 /* Without load. From x = 22 on the concrete below the bars, torn until then, comes back into tension about as fast as compression grows;
  * the last depth has half as much moment again as the first. */
@@ -121,20 +116,15 @@ static void depths_have_their_limits(void)
     CHECK(refuses_depth(plate, UINT32_MAX, 18));
 }
 
-/* Each comes before a depth off the grid, before 14 (the beam has no depth to list) and so before a row too short. */
-static void a_bad_record_comes_first(void)
+/* Each line comes before a depth off the grid, before 14 (such a load leaves no depth to list) and so before a row too short. */
+static void the_first_line_that_holds_refuses(void)
 {
-    section s = beam;
-    CHECK(refuses_row(s, 0, 14, 0));
-    s.asw = 1;
-    CHECK(refuses_depth(s, 0, 13));
-    CHECK(refuses_row(s, 0, 13, 0));
-    s.fck = 29;
-    CHECK(refuses_depth(s, 0, 7));
-    CHECK(refuses_row(s, 0, 7, 0));
-    s.zero = 1;
-    CHECK(refuses_depth(s, 0, 6));
-    CHECK(refuses_row(s, 0, 6, 0));
+    for (uint32_t line = 6; line <= 13; line++) {
+        CHECK(refuses_depth(wrong_from(line), 0, line));
+        CHECK(refuses_row(wrong_from(line), 0, line, 0));
+    }
+    CHECK(refuses_depth(wrong_from(18), 0, 18));
+    CHECK(refuses_row(wrong_from(14), 0, 14, 0));
 }
 
 int main(void)
@@ -144,6 +134,6 @@ int main(void)
     the_last_depth_is_listed_as_a_zero_only();
     a_row_has_its_length();
     depths_have_their_limits();
-    a_bad_record_comes_first();
+    the_first_line_that_holds_refuses();
     return verdict();
 }

@@ -3,7 +3,7 @@
 
 #include "bits.h"
 #include "check.h"
-#include "record.h"
+#include "sections.h"
 
 /* Document 01's figures: d is h, since there are no bars. */
 static const section figures = {.b = 1000, .h = 250, .fck = 30, .fyk = 500, .feq2 = 3000, .feq3 = 2500};
@@ -23,16 +23,6 @@ static int gives(section s, int32_t strain, double stress)
 static int refuses(section s, int32_t strain, uint32_t refusal)
 {
     return answers(record_of(s), strain, refusal, 0.0, 0.0);
-}
-
-static section with_layers(section s, uint16_t depth0, uint16_t area0, uint16_t depth1, uint16_t area1)
-{
-    s.m = 2;
-    s.layers[0].depth = depth0;
-    s.layers[0].area = area0;
-    s.layers[1].depth = depth1;
-    s.layers[1].area = area1;
-    return s;
 }
 
 static void the_figures(void)
@@ -77,30 +67,12 @@ static void no_fibre_help_is_plus_zero(void)
     CHECK(gives(s, -10000, 0.0));
 }
 
-/* Wrong in every line of the table, and put right to its limit line by line. */
 static void the_first_line_that_holds_refuses(void)
 {
-    section s = {.b = 49, .h = 250, .fck = 29, .fyk = 399, .feq2 = 20001, .load = 10000001, .asw = 1, .m = 1, .zero = 1};
-    s.layers[0].depth = 125;
-    s.layers[0].area = 1;
-    CHECK(refuses(s, 3501, 6));
-    s.zero = 0;
-    CHECK(refuses(s, 3501, 7));
-    s.fck = 30;
-    CHECK(refuses(s, 3501, 8));
-    s.b = 50;
-    CHECK(refuses(s, 3501, 9));
-    s.fyk = 400;
-    CHECK(refuses(s, 3501, 10));
-    s.feq2 = 20000;
-    CHECK(refuses(s, 3501, 11));
-    s.load = 10000000;
-    CHECK(refuses(s, 3501, 12));
-    s.layers[0].depth = 126;
-    CHECK(refuses(s, 3501, 13));
-    s.s = 1;
-    CHECK(refuses(s, 3501, 18));
-    CHECK(gives(s, 3500, 17000));
+    for (uint32_t line = 6; line <= 13; line++)
+        CHECK(refuses(wrong_from(line), 3501, line));
+    CHECK(refuses(wrong_from(18), 3501, 18));
+    CHECK(gives(wrong_from(18), 3500, 17000));
 }
 
 static void a_negative_load_has_its_limit(void)

@@ -6,6 +6,7 @@
  *   'd'  fw_draw: len, 16 bits; a record of len bytes; strain, 32 bits signed; refusal, 32 bits; the bits of strain and stress, 64 each
  *   'i'  fw_imbalance: len and a record likewise; x, 32 bits; refusal, 32 bits; amount, 64 bits signed
  *   'm'  fw_moment: the same
+ *   's'  fw_shear: the same without x
  *   'l'  fw_depths: len and a record likewise; words, 16 bits; the row before the call and the row after it, 64 bits a word; refusal and
  *        count, 32 bits each
  *
@@ -131,21 +132,37 @@ static int draw_held(void)
     return 0;
 }
 
-static int amount_held(const char *name, fw_amount (*function)(const uint8_t *, size_t, uint32_t))
+/* Whether the answer that comes next is this one. x is null where the function takes no depth. */
+static int amount_held(fw_amount answer, const char *name, const uint8_t *record, size_t len, const uint32_t *x)
 {
-    size_t len = (size_t)number(2);
-    const uint8_t *record = part(len);
-    uint32_t x = (uint32_t)number(4), refusal = (uint32_t)number(4);
+    uint32_t refusal = (uint32_t)number(4);
     int64_t amount = (int64_t)number(8);
-    fw_amount answer = function(record, len, x);
     if (answer.refusal == refusal && answer.amount == amount)
         return 1;
     if (told()) {
         printf("%s(", name);
         print_start(record, len);
-        printf(", %zu, %u) gives %u, %" PRId64 " and not %u, %" PRId64 "\n", len, x, answer.refusal, answer.amount, refusal, amount);
+        printf(", %zu", len);
+        if (x != NULL)
+            printf(", %u", *x);
+        printf(") gives %u, %" PRId64 " and not %u, %" PRId64 "\n", answer.refusal, answer.amount, refusal, amount);
     }
     return 0;
+}
+
+static int amount_at_held(const char *name, fw_amount (*function)(const uint8_t *, size_t, uint32_t))
+{
+    size_t len = (size_t)number(2);
+    const uint8_t *record = part(len);
+    uint32_t x = (uint32_t)number(4);
+    return amount_held(function(record, len, x), name, record, len, &x);
+}
+
+static int shear_held(void)
+{
+    size_t len = (size_t)number(2);
+    const uint8_t *record = part(len);
+    return amount_held(fw_shear(record, len), "fw_shear", record, len, NULL);
 }
 
 static int depths_held(void)
@@ -176,8 +193,9 @@ static int case_held(int function)
     switch (function) {
     case 'c': return class_held();
     case 'd': return draw_held();
-    case 'i': return amount_held("fw_imbalance", fw_imbalance);
-    case 'm': return amount_held("fw_moment", fw_moment);
+    case 'i': return amount_at_held("fw_imbalance", fw_imbalance);
+    case 'm': return amount_at_held("fw_moment", fw_moment);
+    case 's': return shear_held();
     case 'l': return depths_held();
     }
     printf("no function is '%c'\n", function);

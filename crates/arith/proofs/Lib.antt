@@ -8,3 +8,5 @@ pub mod Answers
 pub mod Products
 pub mod Floats
 pub mod Nearest
+pub mod Largest
+pub mod Floor

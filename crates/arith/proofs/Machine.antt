@@ -1,9 +1,10 @@
 -- Signed numbers in the machine: what it holds, what it reads back from their bits, and what an expression of the code stands for. Assumes nothing.
-use Prim.Native.Nat.{ℕ, _+_, _*_, _^_, _≤_, _<_}
+use Prim.Native.Nat.{ℕ, suc, _+_, _*_, _/_, _^_, _≤_, _<_}
 use mathlib.Core.Path.{_≡_, refl, sym, ap, _∙_, subst}
 use native.Mathlib.Nat as NatL
 use native.Mathlib.Omega.{arith}
 use lib.IntN.{ℤ, pos, negsuc, _+ℤ_, _-ℤ_, _*ℤ_, negℤ, +ℤ-idl, natAbs}
+use lib.Signed.{quotZ}
 use mir.Syntax.{w32, w64}
 use mir.Val.{SFits, toZ, ofZ}
 use mir.Facts as F
@@ -63,6 +64,14 @@ module _ {x y z w : ℤ} {m n : ℕ} (h : Stands x z m) (k : Stands y w n) where
 
   pub stands-mul : Stands (x *ℤ y) (z *ℤ w) (m * n)
   stands-mul = record { is = λ i. h .is i *ℤ k .is i; most = omega (arith, abs-mul z w, NatL.mul-le-mul (h .most) (k .most)) }
+
+-- divided by an unsigned number, towards zero
+quot-most : (z : ℤ) (d : ℕ) → natAbs (quotZ z (pos d)) ≤ natAbs z
+quot-most (pos a) d = NatL.div-le-self a d
+quot-most (negsuc a) d = omega (arith, abs-neg (pos (suc a / d)), NatL.div-le-self (suc a) d)
+
+pub stands-quot : {x z : ℤ} {n : ℕ} (d : ℕ) → d < 2 ^ 63 → Stands x z n → Stands (quotZ x (toZ w64 d)) (quotZ z (pos d)) n
+stands-quot {x} {z} d room h = record { is = λ i. quotZ (h .is i) (read-pos d room i); most = omega (arith, quot-most z d, h .most) }
 
 module _ {x z : ℤ} {n : ℕ} (h : Stands x z n) (room : n < 2 ^ 63) where
   pub stands-fits : SFits w64 x

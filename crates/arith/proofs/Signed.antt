@@ -1,15 +1,15 @@
 -- Signed numbers, by their two parts, so that what is to be shown of one is a fact of ℕ, which `omega` proves. Assumes nothing.
 --     up z, dn z   z is up z - dn z, and one of them is 0
 use Prim.Native.Nat.{ℕ, zero, suc, _+_, _-_, _*_, _≤_, _<_}
-use mathlib.Core.Path.{_≡_, refl, sym, ap, _∙_}
-use mathlib.Core.Bool.{Bool, true, false, not, cond, _&&_, and-true}
+use mathlib.Core.Path.{_≡_, refl, sym, ap, _∙_, subst}
+use mathlib.Core.Bool.{Bool, true, false, not, cond, _&&_, and-true, true≢false}
 use mathlib.Core.Logic.{_⊎_, inl, inr, ⊎-elim}
 use native.Mathlib.Nat as NatL
 use native.Mathlib.Omega.{arith}
 use lib.Dec.{T, ltb, leb, ltb→lt, nltb→le, lt→ltb, le→leb, leb→le, leb·suc-suc}
 use lib.IntN.{ℤ, pos, negsuc, _+ℤ_, _-ℤ_, _*ℤ_, negℤ, subℕ, *ℤ-zero, *ℤ-negsuc, negℤ-negℤ, natAbs}
 use lib.Ieee.Bits.{is-true}
-use lib.Signed.{ltZ, leZ, _≤ℤ_, _<ℤ_}
+use lib.Signed.{nonNeg, ltZ, leZ, _≤ℤ_, _<ℤ_, ltZ-yes, ltZ-no}
 
 -- ---- the two parts of an integer
 abbrev pub up : ℤ → ℕ
@@ -170,6 +170,16 @@ eq-parts e = rw e
 -- a test's flag
 pub lt-test : {x y : ℤ} → x <ℤ y → ltZ x y ≡ true
 lt-test h = is-true _ (h .lt)
+
+pub test-lt : {x y : ℤ} → ltZ x y ≡ true → x <ℤ y
+test-lt e = ltZ-yes (subst T (sym e) tt)
+
+pub test-le : {x y : ℤ} → ltZ x y ≡ false → y ≤ℤ x
+test-le e = ltZ-no (subst (λ (b : Bool). T (not b)) (sym e) tt)
+
+pub not-below : (z : ℤ) → ltZ z (pos 0) ≡ false → T (nonNeg z)
+not-below (pos n) e = tt
+not-below (negsuc n) e = absurd (true≢false e)
 
 -- `omega (arith, zarith, ..)` reads and proves orders and equations of ℤ. What it does not find by itself is listed at its operands:
 -- `parts-add x y`, `parts-minus x y`, `up-scale n x`, `dn-scale n x`, `up-neg x`, `dn-neg x`, `abs-parts x`

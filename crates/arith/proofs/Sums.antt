@@ -11,6 +11,16 @@ use mir.Val.{SFits}
 use Rattle.arith.specs.Sums.{sumN, sumZ, prodN, after}
 use Rattle.arith.proofs.Machine.{back, Stands, stands, stands-add, stands-fits, stored, returned, stands-for}
 
+pub sum-next : (f : ℕ → ℕ) (n : ℕ) → sumN (n + 1) f ≡ sumN n f + f n
+unfolding sumN
+sum-next f n = rw add-one
+
+-- n terms that are alike
+pub sum-alike : (n c : ℕ) → sumN n (λ i. c) ≡ c * n
+unfolding sumN
+sum-alike zero c = sym (NatL.mul-zero c)
+sum-alike (suc n) c = rw (sum-alike n c) (sym (NatL.mul-suc c n))
+
 -- the terms from one on, and one more
 pub run-next : (f : ℕ → ℕ) (from i : ℕ) → from ≤ i → sumN (i + 1 - from) (after from f) ≡ sumN (i - from) (after from f) + f i
 unfolding sumN

@@ -1,3 +1,5 @@
 pub mod Answers
 pub mod Floats
 pub mod Sums
+pub mod Floor
+pub mod Largest

@@ -24,9 +24,13 @@ depthAt s j = layerAt (s .layers) j .depth
 abbrev pub areaAt : Section → ℕ → ℕ
 areaAt s j = layerAt (s .layers) j .area
 
+-- b h, strip by strip
+abbrev pub concreteArea : Section → ℕ
+concreteArea s = sumN (s .h) (widthAt s)
+
 -- the area of concrete and bars
 unfoldable pub area : Section → ℕ
-area s = sumN (s .h) (widthAt s) + sumN (s .count) (areaAt s)
+area s = concreteArea s + sumN (s .count) (areaAt s)
 
 -- the axial load, in mN
 abbrev pub loadOf : Section → ℤ

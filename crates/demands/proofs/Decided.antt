@@ -36,6 +36,8 @@ use Rattle.balance.proofs.moment.Kinds as Moment
 use Rattle.balance.proofs.moment.Reads as MomentReads
 use Rattle.balance.proofs.depths.Kinds as Depths
 use Rattle.balance.proofs.depths.Reads as DepthsReads
+use Rattle.shear.proofs.shear.Kinds as Shear
+use Rattle.shear.proofs.shear.Reads as ShearReads
 use Rattle.book.proofs.section_of.Kinds as SectionOf
 use Rattle.book.proofs.section_of.Reads as SectionOfReads
 use Rattle.class.proofs.class.Kinds as Class
@@ -50,6 +52,8 @@ use Rattle.panel.proofs.fw_moment.Kinds as FwMoment
 use Rattle.panel.proofs.fw_moment.Reads as FwMomentReads
 use Rattle.panel.proofs.fw_depths.Kinds as FwDepths
 use Rattle.panel.proofs.fw_depths.Reads as FwDepthsReads
+use Rattle.panel.proofs.fw_shear.Kinds as FwShear
+use Rattle.panel.proofs.fw_shear.Reads as FwShearReads
 use Rattle.demands.specs.Decided.{Decided, RowDecided}
 
 pub refusal-decided : Decided Refusal.ps Refusal.r RefusalReads.Learnt
@@ -109,6 +113,9 @@ depths-decided κs a x y e f p q = p .0 ∙ sym (q .0)
 pub depths-row-decided : RowDecided Depths.ps Depths.r DepthsReads.Learnt (λ κs e. e .1 .0 .now)
 depths-row-decided κs a x y e f p q = p .1 ∙ sym (q .1)
 
+pub shear-decided : Decided Shear.ps Shear.r ShearReads.Learnt
+shear-decided κs a x y e f p q = p ∙ sym q
+
 pub section-of-decided : Decided SectionOf.ps SectionOf.r SectionOfReads.Learnt
 section-of-decided κs a x y e f p q = p ∙ sym q
 
@@ -132,3 +139,6 @@ fw-depths-decided κs a x y e f p q = p .0 ∙ sym (q .0)
 
 pub fw-depths-row-decided : RowDecided FwDepths.ps FwDepths.r FwDepthsReads.Learnt (λ κs e. e .1 .0 .now)
 fw-depths-row-decided κs a x y e f p q = p .1 ∙ sym (q .1)
+
+pub fw-shear-decided : Decided FwShear.ps FwShear.r FwShearReads.Learnt
+fw-shear-decided κs a x y e f p q = p ∙ sym q

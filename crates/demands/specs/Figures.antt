@@ -1,8 +1,10 @@
 -- Document 01, 'Figures to meet': the figures marked P, as one table.
+use Prim.Native.Nat.{_*_}
 use mathlib.Core.Path.{_≡_}
 use Rattle.law.specs.declared.Law.{Law}
 use Rattle.law.specs.Law.{lawBy}
 use Rattle.law.specs.Stress.{Is, compressed, stretched}
+use Rattle.shear.specs.Shear.{kOf, cOf}
 use Rattle.class.specs.Class.{classAnswer, classed, refused, letter-a, letter-c, letter-d}
 
 -- fck 30, d 250, feq2 3000, feq3 2500; the bars, of fyk 500, are not in its figures
@@ -24,3 +26,5 @@ Figures =
     × Is (compressed law250 1000 1) 12750
     × Is (compressed law250 2000 1) 17000
     × Is (stretched law250 10000 1) 925
+    × (kOf 540 ≡ 1608)
+    × (cOf (400 * 540) 3216 30 ≡ 3548)

@@ -1,15 +1,34 @@
 -- What the answer of `Law::of` tells its callers. Assumes nothing.
-use mathlib.Core.Path.{_≡_, refl}
+use mathlib.Core.Path.{_≡_, refl, sym, ap, _∙_}
+use mathlib.Core.Bool.{false}
+use lib.Dec.{eqb}
+use borrow.Author.Tests.{ne-eqb}
 use Rattle.arith.proofs.Answers.{bears}
 use Rattle.section.specs.declared.Section.{Section}
+use Rattle.section.specs.Accepted.{Accepted}
 use Rattle.section.specs.Refusal.{sectionRefusal}
+use Rattle.section.proofs.Accepted.{accepted}
 use Rattle.law.specs.declared.LawAnswer.{LawAnswer}
 use Rattle.law.specs.Law.{lawOf, refused, lawAnswer}
 
-pub answer-refusal : (s : Section) → lawAnswer s .refusal ≡ sectionRefusal s
+answer-refusal : (s : Section) → lawAnswer s .refusal ≡ sectionRefusal s
 unfolding lawAnswer
 answer-refusal s = bears (λ (a : LawAnswer). a .refusal) (sectionRefusal s) _ refused refl refl
 
-pub answer-law : (s : Section) → sectionRefusal s ≡ 0 → lawAnswer s .law ≡ lawOf s
+answer-law : (s : Section) → sectionRefusal s ≡ 0 → lawAnswer s .law ≡ lawOf s
 unfolding lawAnswer
 answer-law s e = rw e
+
+module _ (s : Section) {a : LawAnswer} (is : a ≡ lawAnswer s) where
+  pub number : a .refusal ≡ sectionRefusal s
+  number = ap (λ (x : LawAnswer). x .refusal) is ∙ answer-refusal s
+
+  pub refuses : (a .refusal ≡ 0 → ⊥) → eqb (sectionRefusal s) 0 ≡ false
+  refuses h = ne-eqb (sectionRefusal s) 0 (λ k. h (number ∙ k))
+
+  pub accepts : a .refusal ≡ 0 → sectionRefusal s ≡ 0
+  accepts h = sym number ∙ h
+
+  -- what is known of a section that is not refused
+  pub passes : a .refusal ≡ 0 → Accepted s × (a .law ≡ lawOf s)
+  passes h = (accepted s (accepts h), ap (λ (x : LawAnswer). x .law) is ∙ answer-law s (accepts h))

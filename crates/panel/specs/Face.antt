@@ -9,6 +9,7 @@ use Rattle.drawn.specs.Drawn.{refused, drawnAnswer}
 use Rattle.balance.specs.declared.Amount.{Amount}
 use Rattle.balance.specs.declared.Listing.{Listing}
 use Rattle.balance.specs.Answers.{noAmount, imbalanceAnswer, momentAnswer, unlisted, listAnswer, rowAfter}
+use Rattle.shear.specs.Shear.{shearAnswer}
 use Rattle.book.specs.Record.{recordRefusal, sectionIn}
 
 abbrev pub ofRecord : {X : Type 0} → List ℕ → (Section → X) → (ℕ → X) → X
@@ -29,3 +30,6 @@ listOf r room = ofRecord r (λ s. listAnswer s room) unlisted
 -- the row afterwards
 unfoldable pub rowOf : List ℕ → List ℤ → List ℤ
 rowOf r row = ofRecord r (λ s. rowAfter s row) (λ number. row)
+
+unfoldable pub shearOf : List ℕ → Amount
+shearOf r = ofRecord r shearAnswer noAmount

@@ -2,7 +2,7 @@
 ghost use mathlib.Core.Path.{_≡_};
 ghost use Rattle.class.specs.Class.{classAnswer};
 ghost use lib.ListN.{length};
-ghost use Rattle.panel.specs.Face.{drawnOf, imbalanceOf, momentOf, listOf, rowOf};
+ghost use Rattle.panel.specs.Face.{drawnOf, imbalanceOf, momentOf, listOf, rowOf, shearOf};
 use balance::Amount;
 use balance::Listing;
 use class::ClassAnswer;
@@ -62,4 +62,16 @@ pub extern "C" fn fw_depths(part: &[u8], row: &mut [i64]) -> Listing
         return Listing::refused(answer.refusal);
     }
     balance::depths(answer.section, row)
+}
+
+// The shear that a record's section resists, in mN; or 6, 7 to 13 or 16, and zero.
+#[no_mangle]
+pub extern "C" fn fw_shear(part: &[u8]) -> Amount
+    ensures { λ r. ⌜ r ≡ shearOf (now (part .entry)) ⌝ }
+{
+    let answer = book::section_of(part);
+    if answer.refusal != 0 {
+        return Amount::refused(answer.refusal);
+    }
+    shear::shear(answer.section)
 }

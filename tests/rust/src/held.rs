@@ -63,13 +63,20 @@ impl Held {
 
     /// That `fw_imbalance` and `fw_moment` give these amounts.
     pub fn amounts(&mut self, record: &[u8], x: u32, amounts: Sums<Amount>) {
-        self.amount(b'i', record, x, amounts.imbalance);
-        self.amount(b'm', record, x, amounts.moment);
+        for (function, answer) in [(b'i', amounts.imbalance), (b'm', amounts.moment)] {
+            let mut case = of_record(function, record);
+            case.extend(x.to_le_bytes());
+            self.amount(case, answer);
+        }
     }
 
-    fn amount(&mut self, function: u8, record: &[u8], x: u32, answer: Amount) {
-        let mut case = of_record(function, record);
-        case.extend(x.to_le_bytes());
+    /// That `fw_shear` gives this amount.
+    pub fn shear(&mut self, record: &[u8], answer: Amount) {
+        self.amount(of_record(b's', record), answer);
+    }
+
+    /// Ends a case of a function that answers an amount.
+    fn amount(&mut self, mut case: Vec<u8>, answer: Amount) {
         case.extend(answer.refusal.to_le_bytes());
         case.extend(answer.amount.to_le_bytes());
         self.case(&case);

@@ -5,9 +5,11 @@ mod class;
 mod drawn;
 mod law;
 mod section;
+mod shear;
 
 pub use balance::{amounts, area, exact, list_of, rounded, write, Amount, List, Listed, Sums};
 pub use class::{class, Class, LETTERS, STEPS};
 pub use drawn::{draw, stress_drawn, Drawn, Point};
 pub use law::{Law, TABLE};
 pub use section::{Layer, Section};
+pub use shear::{c, shear, unlimited_c, unlimited_k, Shear};

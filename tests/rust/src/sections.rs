@@ -92,6 +92,62 @@ pub fn balanced(random: &mut Random, h: u16) -> Section {
     section
 }
 
+/// What lets each number of a section's shear decide, and brings it to its limit or to a whole number, where chance hardly does.
+const SHEARS: [fn(&mut Section, &mut Random); 7] = [
+    // The axial share is then a whole number of kPa, or next to one where a part of the load's last N is lost.
+    |section, random| {
+        let share = random.within(-750..=750);
+        section.load = share * i32::from(section.b) * i32::from(section.h) / 150;
+    },
+    |section, _| section.asw = 0,
+    |section, random| {
+        section.asw = number(random, 0, 300);
+        section.spacing = number(random, 50, 500);
+    },
+    |section, _| set_areas(section, |area| area % 500 + 1),
+    // A layer at mid-height, or half a mm above it, is not below it.
+    |section, random| {
+        let layer = Layer {
+            depth: section.h / 2,
+            area: number(random, 1, 1000),
+        };
+        section.layers.retain(|below| below.depth > layer.depth);
+        if (1..8).contains(&section.layers.len()) {
+            section.layers.insert(0, layer);
+        }
+    },
+    // As is 2 % of b d, or next to it.
+    |section, random| {
+        section.b = section.b.next_multiple_of(50);
+        let d = section.effective_depth();
+        let area = section.b / 50 * d + 1 - random.pick(&[0, 1, 2]);
+        leave_one(section, Layer { depth: d, area });
+    },
+    // Both roots are exact: r is 625 or 500, c 1000, 2000 or 3000.
+    |section, random| {
+        (section.b, section.h, section.fck) = (2000, 1000, 20);
+        let depth = random.pick(&[512, 800]);
+        let area = random.pick(&[1, 8, 27]) * depth;
+        leave_one(section, Layer { depth, area });
+    },
+];
+
+/// Puts one layer in the place of all; a section without bars stays without.
+fn leave_one(section: &mut Section, layer: Layer) {
+    if !section.layers.is_empty() {
+        section.layers = vec![layer];
+    }
+}
+
+/// An accepted section with up to four of these.
+pub fn sheared(random: &mut Random) -> Section {
+    let mut section = accepted(random);
+    for _ in 0..random.within(0..=4) {
+        random.pick(&SHEARS)(&mut section, random);
+    }
+    section
+}
+
 /// What makes a section wrong, in the order of the refusals.
 const FAULTS: [fn(&mut Section, &mut Random); 14] = [
     |section, random| {

@@ -9,9 +9,10 @@ use Rattle.arith.proofs.Machine.{read}
 use Rattle.section.specs.Accepted.{Accepted}
 use Rattle.section.specs.Refusal.{within}
 use Rattle.law.specs.Law.{lawOf}
+use Rattle.law.proofs.Answers.{passes}
 use Rattle.balance.specs.Depths.{lastDepth}
 use Rattle.balance.specs.Answers.{answered}
-use Rattle.balance.proofs.Answers.{on-grid, passes, refuses-section, refuses-depth, answers}
+use Rattle.balance.proofs.Answers.{on-grid, refuses-section, refuses-depth, answers}
 use Rattle.balance.proofs.amount_at.Statement.{statement}
 use Rattle.balance.proofs.amount_at.Tie as tie
 
@@ -31,7 +32,7 @@ met : (c : tie.Else2)
     → let a = c .before .before .before .before .before .args in
     Accepted (a .section) × (c .before .before .before .before .of .result .law ≡ lawOf (a .section)) × (1 ≤ a .x) × (a .x ≤ lastDepth (a .section))
 met c =
-    let k = passes _ _ (c .before .before .before .before .of .ensures) (c .before .before .if1 .left) in
+    let k = passes _ (c .before .before .before .before .of .ensures) (c .before .before .if1 .left) in
     let r = on-grid (c .before .before .before .before .before .args .section) _ (on c) in
     (k .0, k .1, r .0, r .1)
 

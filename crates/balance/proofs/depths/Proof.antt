@@ -4,7 +4,8 @@ use native.Mathlib.Omega.{arith}
 use borrow.Author.Needs.{needs}
 use Rattle.section.specs.Accepted.{Accepted}
 use Rattle.law.specs.Law.{lawOf}
-use Rattle.balance.proofs.Answers.{passes, refuses-list, lists-none, lists-short, lists}
+use Rattle.law.proofs.Answers.{passes}
+use Rattle.balance.proofs.Answers.{refuses-list, lists-none, lists-short, lists}
 use Rattle.balance.proofs.depths.Statement.{statement}
 use Rattle.balance.proofs.depths.Tie as tie
 
@@ -15,7 +16,7 @@ returns c =
 
 -- a section that is not refused, and its law
 met : (c : tie.Else1) → let s = c .before .before .before .args .section in Accepted s × (c .before .before .of .result .law ≡ lawOf s)
-met c = passes _ _ (c .before .before .of .ensures) (c .if1 .left)
+met c = passes _ (c .before .before .of .ensures) (c .if1 .left)
 
 returns-2 : tie.Need-returns-2
 returns-2 c =

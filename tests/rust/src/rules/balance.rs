@@ -12,6 +12,17 @@ pub struct Amount {
     pub amount: i64,
 }
 
+impl Amount {
+    /// Of a sum or a refusal.
+    pub fn of(sum: Result<i128, u32>) -> Amount {
+        let (refusal, amount) = match sum {
+            Ok(sum) => (0, whole(sum)),
+            Err(refusal) => (refusal, 0),
+        };
+        Amount { refusal, amount }
+    }
+}
+
 /// `fw_listed`.
 #[repr(C)]
 #[derive(Debug, Clone, Copy, PartialEq, Eq)]
@@ -89,12 +100,7 @@ pub fn exact(section: &Section, x: u16) -> Sums<Fraction> {
 
 /// The area of concrete and bars: rounding may take one kPa from all of it.
 pub fn area(section: &Section) -> i128 {
-    let bars: i128 = section
-        .layers
-        .iter()
-        .map(|layer| i128::from(layer.area))
-        .sum();
-    i128::from(section.b) * i128::from(section.h) + bars
+    i128::from(section.b) * i128::from(section.h) + section.bars(|_| true)
 }
 
 /// Listed depths: x, kind, moment.
@@ -121,7 +127,7 @@ fn list(section: &Section) -> List {
 }
 
 fn whole(n: i128) -> i64 {
-    i64::try_from(n).expect("imbalances and moments fit in 64 bits")
+    i64::try_from(n).expect("amounts fit in 64 bits")
 }
 
 /// What `fw_imbalance` and `fw_moment` answer.
@@ -130,14 +136,9 @@ pub fn amounts(record: &[u8], x: u32) -> Sums<Amount> {
         let on_grid = (1..=u32::from(section.h)).contains(&x);
         on_grid.then(|| rounded(&section, x as u16)).ok_or(18)
     });
-    let (refusal, imbalance, moment) = match sums {
-        Ok(sums) => (0, whole(sums.imbalance), whole(sums.moment)),
-        Err(refusal) => (refusal, 0, 0),
-    };
-    let answer = |amount| Amount { refusal, amount };
     Sums {
-        imbalance: answer(imbalance),
-        moment: answer(moment),
+        imbalance: Amount::of(sums.map(|sums| sums.imbalance)),
+        moment: Amount::of(sums.map(|sums| sums.moment)),
     }
 }
 

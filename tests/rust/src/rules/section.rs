@@ -99,11 +99,20 @@ impl Section {
     }
 
     fn bars_right(&self) -> bool {
-        let below_middle = |depth| 2 * u32::from(depth) > u32::from(self.h);
         self.layers.is_sorted_by(|a, b| a.depth < b.depth)
             && self.depths().all(|depth| (1..self.h).contains(&depth))
             && self.layers.iter().all(|layer| layer.area != 0)
-            && self.depths().max().is_none_or(below_middle)
+            && (self.depths().max()).is_none_or(|depth| self.below_mid_height(depth))
+    }
+
+    pub fn below_mid_height(&self, depth: u16) -> bool {
+        2 * u32::from(depth) > u32::from(self.h)
+    }
+
+    /// The area of the layers at depths that count.
+    pub fn bars(&self, counts: impl Fn(u16) -> bool) -> i128 {
+        let counting = self.layers.iter().filter(|layer| counts(layer.depth));
+        counting.map(|layer| i128::from(layer.area)).sum()
     }
 
     fn depths(&self) -> impl Iterator<Item = u16> + '_ {

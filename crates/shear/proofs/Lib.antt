@@ -1,0 +1,4 @@
+pub mod Roots
+pub mod Ranges
+mod Answers
+pub mod Theorems

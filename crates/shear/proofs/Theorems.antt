@@ -1,0 +1,29 @@
+-- That the definitions mean document 01's words: the roots are the largest of all numbers, and the axial share is rounded towards minus infinity.
+-- Assumes nothing.
+use Prim.Native.Nat.{ℕ, _*_, _<_}
+use mathlib.Core.Bool.{true, false}
+use native.Mathlib.Omega.{arith}
+use lib.IntN.{ℤ, pos, _+ℤ_, _*ℤ_}
+use lib.Signed.{_≤ℤ_, _<ℤ_}
+use Rattle.arith.specs.Largest.{Largest, largest}
+use Rattle.arith.proofs.Largest.{largest-is}
+use Rattle.arith.proofs.Floor.{floor-is}
+use Rattle.section.specs.declared.Section.{Section}
+use Rattle.section.specs.Accepted.{Accepted}
+use Rattle.balance.specs.Forces.{concreteArea, loadOf}
+use Rattle.shear.specs.Shear.{squared, cubed, axialShare}
+use Rattle.shear.proofs.Roots.{raised-climbs}
+use Rattle.shear.proofs.Ranges.{concrete-area, area-in}
+
+-- the root of k, and both roots of c
+pub square-root : (d bound : ℕ) → 0 < d → Largest (squared d) bound (largest (squared d) bound)
+square-root d bound h = largest-is (raised-climbs false d h) (omega arith)
+
+pub cube-root : (bd bound : ℕ) → 0 < bd → Largest (cubed bd) bound (largest (cubed bd) bound)
+cube-root bd bound h = largest-is (raised-climbs true bd h) (omega arith)
+
+-- D q ≤ 15 N < D q + D, where q is the share and D is 100 b h
+pub axial-floor : {s : Section} → Accepted s
+    → let D = pos (100 * concreteArea s) in ((D *ℤ axialShare s) ≤ℤ (pos 15 *ℤ loadOf s)) × ((pos 15 *ℤ loadOf s) <ℤ ((D *ℤ axialShare s) +ℤ D))
+unfolding axialShare
+axial-floor {s} a = floor-is (pos 15 *ℤ loadOf s) (100 * concreteArea s) (omega (arith, concrete-area s, area-in a .0))

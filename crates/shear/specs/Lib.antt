@@ -1,0 +1,2 @@
+pub mod Shear
+pub mod Code

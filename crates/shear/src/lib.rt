@@ -1,0 +1,173 @@
+// The shear that a section resists (document 01, 'Shear'). Stress in kPa, shear in mN.
+ghost use mathlib.Core.Path.{_≡_};
+ghost use Prim.Native.Nat.{_+_, _*_, _^_, _≤_, _<_, min, max};
+ghost use lib.IntN.{natAbs};
+ghost use Rattle.arith.specs.Floor.{floorDiv};
+ghost use Rattle.arith.specs.Largest.{largest};
+ghost use Rattle.section.specs.Accepted.{Accepted};
+ghost use Rattle.law.specs.Law.{effectiveDepth, lawOf};
+ghost use Rattle.shear.specs.Shear.{steelArea, kOf, cOf, atLeastZero, axialShare, concreteShare, fibreShare, stirrups, struts, resistance, shearAnswer};
+ghost use Rattle.shear.specs.Code.{raised, pastRoots, mostAxial, mostConcrete, mostShear};
+use balance::Amount;
+use law::Law;
+use section::Section;
+
+fn least(a: u64, b: u64) -> u64
+    ensures { λ r. ⌜ r ≡ min a b ⌝ }
+{
+    if a < b { a } else { b }
+}
+
+fn most(a: u64, b: u64) -> u64
+    ensures { λ r. ⌜ r ≡ max a b ⌝ }
+{
+    if a < b { b } else { a }
+}
+
+// As: the area of layers below mid-height.
+fn steel_area(section: Section) -> u64
+    requires { ⌜ Accepted section ⌝ }
+    ensures { λ r. ⌜ (r ≡ steelArea section) × (r ≤ 65535 * 8) ⌝ }
+{
+    let m = section.count as usize;
+    let h = section.h as u32;
+    let mut sum: u64 = 0;
+    for j in 0..m {
+        let layer = section.layers[j];
+        if h < 2 * (layer.depth as u32) {
+            sum = sum + layer.area as u64;
+        }
+    }
+    sum
+}
+
+// n² or n³, times a number.
+fn raised(cube: bool, by: u64, n: u64) -> u64
+    requires { ⌜ (by ≤ 2000000) × (n ≤ pastRoots) ⌝ }
+    ensures { λ r. ⌜ (r ≡ raised cube by n) × (r < 2 ^ 63) ⌝ }
+{
+    let square = n * n;
+    if cube { square * n * by } else { square * by }
+}
+
+// The largest n with n² or n³, times a number, at most `bound`.
+fn root(cube: bool, by: u64, bound: u64) -> u64
+    requires { ⌜ (by ≤ 2000000) × (bound < raised cube by pastRoots) ⌝ }
+    ensures { λ r. ⌜ (r ≡ largest (raised cube by) bound) × (r < pastRoots) ⌝ }
+{
+    let mut n: u64 = 0;
+    while raised(cube, by, n + 1) <= bound {
+        n = n + 1;
+    }
+    n
+}
+
+fn k_of(d: u64) -> u64
+    requires { ⌜ (0 < d) × (d ≤ 1000) ⌝ }
+    ensures { λ r. ⌜ (r ≡ kOf d) × (r ≤ 2000) ⌝ }
+{
+    least(1000 + root(false, d, 200000000), 2000)
+}
+
+fn c_of(bd: u64, steel: u64, fck: u64) -> u64
+    requires { ⌜ (0 < bd) × (bd ≤ 2000000) × (steel ≤ 65535 * 8) × (fck ≤ 50) ⌝ }
+    ensures { λ r. ⌜ (r ≡ cOf bd steel fck) × (r < pastRoots) ⌝ }
+{
+    if bd < 50 * steel {
+        root(true, 1, 2000000000 * fck)
+    } else {
+        root(true, bd, 100000000000 * steel * fck)
+    }
+}
+
+// Rounded towards minus infinity, where the machine's division rounds towards zero.
+fn floor_div(n: i64, d: u64) -> i64
+    requires { ⌜ (natAbs n ≤ mostAxial) × (0 < d) × (d < 2 ^ 63) ⌝ }
+    ensures { λ r. ⌜ (r ≡ floorDiv n d) × (natAbs r ≤ mostAxial) ⌝ }
+{
+    let by = d as i64;
+    if n < 0 { -1 - (-1 - n) / by } else { n / by }
+}
+
+fn axial_share(section: Section) -> i64
+    requires { ⌜ Accepted section ⌝ }
+    ensures { λ r. ⌜ (r ≡ axialShare section) × (natAbs r ≤ mostAxial) ⌝ }
+{
+    floor_div(
+        15 * (1000 * (section.load as i64)),
+        100 * (section.b as u64 * section.h as u64),
+    )
+}
+
+fn at_least_zero(z: i64) -> u64
+    requires { ⌜ natAbs z ≤ mostConcrete ⌝ }
+    ensures { λ r. ⌜ (r ≡ atLeastZero z) × (r ≤ mostConcrete) ⌝ }
+{
+    if z < 0 { 0 } else { z as u64 }
+}
+
+fn concrete_share(section: Section, d: u64) -> u64
+    requires { ⌜ (Accepted section) × (d ≡ effectiveDepth section) ⌝ }
+    ensures { λ r. ⌜ (r ≡ concreteShare section) × (r ≤ mostConcrete) ⌝ }
+{
+    let c = c_of(
+        section.b as u64 * d,
+        steel_area(section),
+        section.fck as u64,
+    );
+    let share = 12 * k_of(d) * c / 100000;
+    at_least_zero(share as i64 + axial_share(section))
+}
+
+fn fibre_share(feq3: u64, d: u64) -> u64
+    requires { ⌜ (feq3 ≤ 20000) × (d ≤ 1000) ⌝ }
+    ensures { λ r. ⌜ (r ≡ fibreShare feq3 d) × (r ≤ 4000) ⌝ }
+{
+    12 * feq3 / 100 * most(1000, 1600 - d) / 1000
+}
+
+fn stirrups(asw: u16, d: u64, fyd: u64, spacing: u16) -> u64
+    requires { ⌜ (d ≤ 1000) × (fyd ≤ 521739) × (0 < asw → 0 < spacing) ⌝ }
+    ensures { λ r. ⌜ (r ≡ stirrups asw d fyd spacing) × (r ≤ mostShear) ⌝ }
+{
+    if asw == 0 {
+        return 0;
+    }
+    9 * (asw as u64) * d * fyd / (10 * (spacing as u64))
+}
+
+fn struts(fck: u64, bd: u64) -> u64
+    requires { ⌜ (fck ≤ 50) × (bd ≤ 2000000) ⌝ }
+    ensures { λ r. ⌜ (r ≡ struts fck bd) × (r ≤ mostShear) ⌝ }
+{
+    most(500, 700 - 5 * fck) * (2000 * fck / 3) * (9 * bd) / 20000
+}
+
+fn resistance(section: Section, fyd: u64) -> u64
+    requires { ⌜ (Accepted section) × (fyd ≡ lawOf section .fyd) ⌝ }
+    ensures { λ r. ⌜ (r ≡ resistance section) × (r ≤ mostShear) ⌝ }
+{
+    let d = law::effective_depth(section) as u64;
+    let bd = section.b as u64 * d;
+    let shares = concrete_share(section, d) + fibre_share(section.feq3 as u64, d);
+    let sum = shares * bd + stirrups(section.asw, d, fyd, section.spacing);
+    let struts = struts(section.fck as u64, bd);
+    least(sum, struts)
+}
+
+// The shear that a section resists, in mN; or 7 to 13, then 16 without bars, and zero.
+pub fn shear(section: Section) -> Amount
+    ensures { λ r. ⌜ r ≡ shearAnswer section ⌝ }
+{
+    let answer = Law::of(section);
+    if answer.refusal != 0 {
+        return Amount::refused(answer.refusal);
+    }
+    if section.count == 0 {
+        return Amount::refused(16);
+    }
+    Amount {
+        refusal: 0,
+        amount: resistance(section, answer.law.fyd as u64) as i64,
+    }
+}

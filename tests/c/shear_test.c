@@ -1,0 +1,168 @@
+/* fw_shear as the panel's program calls it: document 01's records, each share with its limits and its rounding, and each refusal. */
+#include "fordwhistle.h"
+
+#include "check.h"
+#include "sections.h"
+
+/* Its concrete bears 628 kPa on a b d of 135000 mm2, and nothing else does. A load of 1000 N makes that 1 kPa more. */
+static const section joist = {.b = 300, .h = 500, .fck = 35, .fyk = 500, .m = 1, .layers = {{450, 1200}}};
+
+static int answers(const uint8_t *bytes, size_t len, uint32_t refusal, int64_t amount)
+{
+    fw_amount answer = fw_shear(bytes, len);
+    return answer.refusal == refusal && answer.amount == amount;
+}
+
+static int gives(section s, int64_t amount)
+{
+    record r = record_of(s);
+    return answers(r.bytes, r.len, 0, amount);
+}
+
+static int refuses(section s, uint32_t refusal)
+{
+    record r = record_of(s);
+    return answers(r.bytes, r.len, refusal, 0);
+}
+
+static section with_load(section s, int32_t load)
+{
+    s.load = load;
+    return s;
+}
+
+static section with_area(section s, uint16_t area)
+{
+    s.layers[0].area = area;
+    return s;
+}
+
+static section with_stirrups(section s, uint16_t asw, uint16_t spacing)
+{
+    s.asw = asw;
+    s.s = spacing;
+    return s;
+}
+
+static void the_figures(void)
+{
+    CHECK(refuses(plate, 16));
+    CHECK(gives(beam, 1069200000));
+}
+
+/* The bytes of the beam, with none after them. */
+static void a_record_has_its_length(void)
+{
+    static const uint8_t bytes[28] = {
+        0x90, 0x01, 0x58, 0x02, 0x1e, 0x00, 0xf4, 0x01, 0xd0, 0x07, 0xd0, 0x07, 0x80, 0x96,
+        0x98, 0x00, 0x00, 0x00, 0x00, 0x00, 0x01, 0x00, 0x00, 0x00, 0x1c, 0x02, 0x90, 0x0c,
+    };
+    CHECK(answers(bytes, 28, 0, 1069200000));
+    CHECK(answers(bytes, 27, 6, 0));
+    CHECK(answers(bytes, 24, 6, 0));
+    CHECK(answers(bytes, 0, 6, 0));
+}
+
+/* From fck 40 on their factor stays at 500. */
+static void the_struts_are_the_most(void)
+{
+    section s = with_stirrups(joist, 157, 1);
+    CHECK(gives(s, 744176868));
+    s.fck = 20;
+    CHECK(gives(s, 485987850));
+    s.fck = 50;
+    CHECK(gives(s, 1012489875));
+}
+
+static void bars_count_up_to_2_percent(void)
+{
+    CHECK(gives(with_area(joist, 2600), 109755000));
+    CHECK(gives(with_area(joist, 2700), 111105000));
+    CHECK(gives(with_area(joist, 2701), 111105000));
+    CHECK(gives(with_area(joist, UINT16_MAX), 111105000));
+}
+
+static void layers_count_below_mid_height(void)
+{
+    CHECK(gives(joist, 84780000));
+    CHECK(gives(with_layers(joist, 50, 900, 450, 1200), 84780000));
+    CHECK(gives(with_layers(joist, 250, 900, 450, 1200), 84780000));
+    CHECK(gives(with_layers(joist, 251, 900, 450, 1200), 102195000));
+}
+
+/* At 180 mm r is 1054, and k has its limit. In the other r is 500 and c 3000, and neither is rounded. */
+static void roots_have_a_limit_and_may_be_exact(void)
+{
+    static const section low = {.b = 300, .h = 220, .fck = 35, .fyk = 500, .m = 1, .layers = {{180, 1200}}};
+    static const section exact = {.b = 2000, .h = 1000, .fck = 20, .fyk = 500, .m = 1, .layers = {{800, 21600}}};
+    CHECK(gives(low, 53406000));
+    CHECK(gives(exact, 864000000));
+}
+
+static void a_tensile_share_goes_towards_minus_infinity(void)
+{
+    CHECK(gives(with_load(joist, 1000), 84915000));
+    CHECK(gives(with_load(joist, 999), 84780000));
+    CHECK(gives(with_load(joist, -1), 84645000));
+    CHECK(gives(with_load(joist, -1000), 84645000));
+    CHECK(gives(with_load(joist, -1001), 84510000));
+}
+
+static void tension_leaves_the_fibres(void)
+{
+    section s = with_load(joist, -627000);
+    CHECK(gives(s, 135000));
+    s.load = -628000;
+    CHECK(gives(s, 0));
+    s.load = -1000000;
+    CHECK(gives(s, 0));
+    s.feq3 = 1999;
+    CHECK(gives(s, 36990000));
+}
+
+/* t is 239.88 before it is rounded. From a d of 600 on the fibres bear just t. */
+static void fibres_are_rounded_twice(void)
+{
+    static const section deep = {.b = 300, .h = 1000, .fck = 35, .fyk = 500, .feq3 = 1999, .m = 1, .layers = {{900, 1200}}};
+    section s = joist;
+    s.feq3 = 1999;
+    CHECK(gives(s, 121770000));
+    CHECK(gives(deep, 183330000));
+    CHECK(gives(with_stirrups(with_load(s, -123456), 157, 200), 243258067));
+}
+
+static void stirrups_have_a_spacing(void)
+{
+    CHECK(gives(with_stirrups(joist, 157, 200), 223008067));
+    CHECK(gives(with_stirrups(joist, UINT16_MAX, UINT16_MAX), 260866710));
+    CHECK(gives(with_stirrups(joist, 0, 200), 84780000));
+}
+
+/* 16 comes last. */
+static void the_first_line_that_holds_refuses(void)
+{
+    section s = wrong_from(13);
+    for (uint32_t line = 6; line <= 13; line++)
+        CHECK(refuses(wrong_from(line), line));
+    CHECK(gives(wrong_from(14), 31185000));
+    s.m = 0;
+    CHECK(refuses(s, 13));
+    s.s = 1;
+    CHECK(refuses(s, 16));
+}
+
+int main(void)
+{
+    the_figures();
+    a_record_has_its_length();
+    the_struts_are_the_most();
+    bars_count_up_to_2_percent();
+    layers_count_below_mid_height();
+    roots_have_a_limit_and_may_be_exact();
+    a_tensile_share_goes_towards_minus_infinity();
+    tension_leaves_the_fibres();
+    fibres_are_rounded_twice();
+    stirrups_have_a_spacing();
+    the_first_line_that_holds_refuses();
+    return verdict();
+}

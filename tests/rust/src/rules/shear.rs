@@ -1,0 +1,86 @@
+//! Shear. Roots are found by their binary digits and not by counting up, and the numbers stay apart until they are summed, so that a test
+//! can put one of them wrong.
+use super::balance::Amount;
+use super::law::Law;
+use super::section::Section;
+
+/// k and c in thousandths, axial and fibres in kPa, b d in mm², stirrups and struts in mN.
+#[derive(Debug, Clone, Copy)]
+pub struct Shear {
+    pub k: i128,
+    pub c: i128,
+    pub axial: i128,
+    pub fibres: i128,
+    pub bd: i128,
+    pub stirrups: i128,
+    pub struts: i128,
+}
+
+impl Shear {
+    /// Of an accepted section with bars.
+    pub fn of(section: &Section) -> Shear {
+        let [b, h, d] = [section.b, section.h, section.effective_depth()].map(i128::from);
+        let [fck, feq3, asw, s] =
+            [section.fck, section.feq3, section.asw, section.spacing].map(i128::from);
+        let (bd, load) = (b * d, 1000 * i128::from(section.load));
+        Shear {
+            k: unlimited_k(d).min(2000),
+            c: c(section, |depth| section.below_mid_height(depth)),
+            axial: (15 * load).div_euclid(100 * b * h),
+            fibres: 12 * feq3 / 100 * (1600 - d).max(1000) / 1000,
+            bd,
+            stirrups: match asw {
+                0 => 0,
+                _ => 9 * asw * d * Law::of(section).fyd / (10 * s),
+            },
+            struts: (700 - 5 * fck).max(500) * (2000 * fck / 3) * 9 * bd / 20_000,
+        }
+    }
+
+    /// With its axial share, in kPa. What is below 0 counts as 0.
+    pub fn concrete(&self) -> i128 {
+        12 * self.k * self.c / 100_000 + self.axial
+    }
+
+    pub fn resistance(&self) -> i128 {
+        let sum = (self.concrete().max(0) + self.fibres) * self.bd + self.stirrups;
+        sum.min(self.struts)
+    }
+}
+
+/// k before its limit.
+pub fn unlimited_k(d: i128) -> i128 {
+    1000 + largest(|r| r * r * d <= 200_000_000)
+}
+
+/// c where the layers at depths that count are As. It rises with As over b d, so its limit is the root at 2 %.
+pub fn c(section: &Section, counts: impl Fn(u16) -> bool) -> i128 {
+    let [b, d, fck] = [section.b, section.effective_depth(), section.fck].map(i128::from);
+    unlimited_c(section.bars(counts), b * d, fck).min(unlimited_c(1, 50, fck))
+}
+
+/// c before its limit.
+pub fn unlimited_c(bars: i128, bd: i128, fck: i128) -> i128 {
+    largest(|c| c.pow(3) * bd <= 100_000_000_000 * bars * fck)
+}
+
+/// The largest number that this holds of, where it holds of each from 0 to that one; 20 binary digits are enough for any root here.
+fn largest(holds: impl Fn(i128) -> bool) -> i128 {
+    (0..20).rev().fold(0, |root, digit| {
+        let larger = root + (1 << digit);
+        if holds(larger) {
+            larger
+        } else {
+            root
+        }
+    })
+}
+
+/// What `fw_shear` answers.
+pub fn shear(record: &[u8]) -> Amount {
+    let section = Section::of(record);
+    Amount::of(section.and_then(|section| match section.layers.is_empty() {
+        true => Err(16),
+        false => Ok(Shear::of(&section).resistance()),
+    }))
+}

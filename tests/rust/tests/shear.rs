@@ -1,0 +1,227 @@
+//! `fw_shear` held to document 01's shear.
+use fordwhistle_tests::held::Held;
+use fordwhistle_tests::random::Random;
+use fordwhistle_tests::rules::{self, Amount, Layer, Section, Shear};
+use fordwhistle_tests::sections;
+use std::cmp::Ordering;
+use std::collections::BTreeSet;
+
+/// With and without bars.
+fn accepted() -> impl Iterator<Item = Section> {
+    let mut random = Random::new(8);
+    (0..20_000).map(move |_| sections::sheared(&mut random))
+}
+
+fn damaged() -> impl Iterator<Item = Vec<u8>> {
+    let mut random = Random::new(9);
+    (0..10_000).map(move |_| {
+        let section = sections::sheared(&mut random);
+        sections::damaged(&mut random, section)
+    })
+}
+
+fn records() -> impl Iterator<Item = Vec<u8>> {
+    accepted().map(|section| section.record()).chain(damaged())
+}
+
+#[test]
+fn the_face_gives_the_rules_shear() {
+    let mut held = Held::new();
+    for record in records() {
+        held.shear(&record, rules::shear(&record));
+    }
+    held.finish();
+}
+
+#[test]
+fn the_rules_give_the_figures() {
+    let beam = Section {
+        b: 400,
+        h: 600,
+        fck: 30,
+        fyk: 500,
+        feq2: 2000,
+        feq3: 2000,
+        load: 10_000_000,
+        asw: 0,
+        spacing: 0,
+        layers: vec![Layer {
+            depth: 540,
+            area: 3216,
+        }],
+    };
+    let Shear { k, c, .. } = Shear::of(&beam);
+    let answer = Amount {
+        refusal: 0,
+        amount: 1_069_200_000,
+    };
+    assert_eq!((k, c), (1608, 3548));
+    assert_eq!(rules::shear(&beam.record()), answer);
+}
+
+fn refusals(records: impl Iterator<Item = Vec<u8>>) -> BTreeSet<u32> {
+    records
+        .map(|record| rules::shear(&record).refusal)
+        .collect()
+}
+
+#[test]
+fn the_sections_are_accepted_and_the_damaged_records_reach_every_refusal() {
+    let sections = accepted().map(|section| section.record());
+    let every = [0].into_iter().chain(6..=13).chain([16]);
+    assert!(refusals(sections).into_iter().eq([0, 16]));
+    assert!(refusals(damaged()).into_iter().eq(every));
+}
+
+/// The accepted ones with bars, each with its numbers.
+fn numbered() -> Vec<(Section, Shear)> {
+    let with_bars = accepted().filter(|section| !section.layers.is_empty());
+    with_bars.map(|s| (s.clone(), Shear::of(&s))).collect()
+}
+
+fn fck(section: &Section) -> i128 {
+    section.fck.into()
+}
+
+fn d(section: &Section) -> i128 {
+    section.effective_depth().into()
+}
+
+fn t(section: &Section) -> i128 {
+    12 * i128::from(section.feq3) / 100
+}
+
+/// As.
+fn bars(section: &Section) -> i128 {
+    section.bars(|depth| section.below_mid_height(depth))
+}
+
+/// Numerator and denominator of the axial share.
+fn axial(section: &Section) -> (i128, i128) {
+    let [b, h] = [section.b, section.h].map(i128::from);
+    (15_000 * i128::from(section.load), 100 * b * h)
+}
+
+/// What a wrong program makes of the right numbers.
+type Error = (&'static str, fn(&Section, &mut Shear));
+
+const ERRORS: [Error; 22] = [
+    ("every layer is below mid-height", |section, shear| {
+        shear.c = rules::c(section, |_| true)
+    }),
+    ("a layer at mid-height is below it", |section, shear| {
+        shear.c = rules::c(section, |depth| 2 * depth >= section.h)
+    }),
+    ("k has no limit", |section, shear| {
+        shear.k = rules::unlimited_k(d(section))
+    }),
+    ("k is its limit", |_, shear| shear.k = 2000),
+    ("r is less than an exact root", |section, shear| {
+        let exact = (shear.k - 1000).pow(2) * d(section) == 200_000_000;
+        shear.k -= i128::from(exact)
+    }),
+    ("c has no limit", |section, shear| {
+        shear.c = rules::unlimited_c(bars(section), shear.bd, fck(section))
+    }),
+    ("c is its limit", |section, shear| {
+        shear.c = rules::unlimited_c(1, 50, fck(section))
+    }),
+    ("c is less than an exact root", |section, shear| {
+        let most = 100_000_000_000 * bars(section) * fck(section);
+        shear.c -= i128::from(shear.c.pow(3) * shear.bd == most)
+    }),
+    ("tension is rounded towards zero", |section, shear| {
+        let (num, den) = axial(section);
+        shear.axial = num / den
+    }),
+    ("whole tension is rounded too", |section, shear| {
+        let (num, den) = axial(section);
+        shear.axial = num / den - i128::from(num < 0)
+    }),
+    ("the load is in N", |section, shear| {
+        let (num, den) = axial(section);
+        shear.axial = num.div_euclid(1000 * den)
+    }),
+    ("the concrete bears less than 0", |_, shear| {
+        shear.fibres += shear.concrete().min(0)
+    }),
+    ("the fibres' factor has no least", |section, shear| {
+        shear.fibres = t(section) * (1600 - d(section)) / 1000
+    }),
+    ("the fibres' factor is its least", |section, shear| {
+        shear.fibres = t(section)
+    }),
+    ("t is not rounded", |section, shear| {
+        let factor = (1600 - d(section)).max(1000);
+        shear.fibres = 12 * i128::from(section.feq3) * factor / 100_000
+    }),
+    ("there are no stirrups", |_, shear| shear.stirrups = 0),
+    ("the stirrups are 1 mm apart", |section, shear| {
+        shear.stirrups *= i128::from(section.spacing)
+    }),
+    ("there are no struts", |_, shear| shear.struts = i128::MAX),
+    ("only the struts count", |_, shear| {
+        shear.stirrups = shear.struts
+    }),
+    ("the struts' factor has no least", |section, shear| {
+        let fck = fck(section);
+        shear.struts = (700 - 5 * fck) * (2000 * fck / 3) * 9 * shear.bd / 20_000
+    }),
+    ("the struts' factor is its least", |section, shear| {
+        shear.struts = 500 * (2000 * fck(section) / 3) * 9 * shear.bd / 20_000
+    }),
+    ("2000 fck / 3 is not rounded", |section, shear| {
+        let fck = fck(section);
+        shear.struts = (700 - 5 * fck).max(500) * 2000 * fck * 9 * shear.bd / 60_000
+    }),
+];
+
+#[test]
+fn every_error_would_show_in_many_sections() {
+    let sections = numbered();
+    for (error, make) in ERRORS {
+        let shows = |(section, right): &&(Section, Shear)| {
+            let mut wrong = *right;
+            make(section, &mut wrong);
+            wrong.resistance() != right.resistance()
+        };
+        let shown = sections.iter().filter(shows).count();
+        assert!(shown > 100, "{error}: {shown}");
+    }
+}
+
+/// No amount shows whether c has its limit at 50 As = b d, nor what s is where Asw is 0.
+#[test]
+fn the_sections_reach_the_limit_on_bars_and_stirrups_without_area() {
+    let (mut limits, mut stirrups) = (BTreeSet::new(), BTreeSet::new());
+    for (section, shear) in numbered() {
+        limits.insert((50 * bars(&section)).cmp(&shear.bd));
+        stirrups.insert((section.asw == 0, section.spacing == 0));
+    }
+    let sides = [Ordering::Less, Ordering::Equal, Ordering::Greater];
+    assert_eq!(limits, BTreeSet::from(sides));
+    assert_eq!(
+        stirrups,
+        BTreeSet::from([(false, false), (true, false), (true, true)])
+    );
+}
+
+/// The library is x86-64 code, so only there can a Rust program link it.
+#[cfg(target_arch = "x86_64")]
+mod linked {
+    use super::{records, rules, Amount};
+
+    #[link(name = "panel", kind = "static")]
+    extern "C" {
+        fn fw_shear(record: *const u8, len: usize) -> Amount;
+    }
+
+    #[test]
+    fn the_face_linked_gives_the_rules_shear() {
+        for record in records() {
+            // It reads the record and touches no other memory of the caller's.
+            let amount = unsafe { fw_shear(record.as_ptr(), record.len()) };
+            assert_eq!(amount, rules::shear(&record), "{record:?}");
+        }
+    }
+}
