@@ -89,8 +89,8 @@ typedef struct {
 /* The point of a record's section at a whole strain. Refusal 6, then 7 to 13, then 18; strain and stress are then plus zero. */
 fw_drawn fw_draw(const uint8_t *record, size_t len, int32_t strain);
 
-/* A number of a section.
- * amount: the imbalance, the moment or the shear resistance, by the function that returns it; each is said before that function. */
+/* One number of a section.
+ * amount: an imbalance, a moment or a shear resistance, as the function says that returns it. */
 typedef struct {
     uint32_t refusal;
     int64_t amount;
@@ -128,9 +128,9 @@ typedef struct {
  * number, 0 too. 3 h words hold every list of a section of height h, so 3000 the list of any section. */
 fw_listed fw_depths(const uint8_t *record, size_t len, int64_t *row, size_t words);
 
-/* The shear of a section with bars. d and fyd are as above, As is the area of the layers below mid-height (twice the depth is more than
- * h), N is the axial load in mN, 1000 times the record's. Each quotient is rounded down to a whole number before it is used, and so the
- * share of a tensile load towards minus infinity:
+/* The shear resistance of a section with bars. d and fyd are as above. As is the area of the layers below mid-height (twice the depth is
+ * more than h), N is the axial load in mN, 1000 times the record's. Each quotient is rounded down to a whole number before it is used,
+ * and so the share of a tensile load towards minus infinity:
  *   k = 1000 + r, at most 2000, with the largest r such that r x r x d is at most 200000000
  *   c = the largest such that c x c x c x b d is at most 100000000000 As fck; where 50 As > b d, that c x c x c is at most 2000000000 fck
  *   concrete = 12 k c / 100000 + 15 N / (100 b h), at least 0
@@ -140,8 +140,8 @@ fw_listed fw_depths(const uint8_t *record, size_t len, int64_t *row, size_t word
  *
  * shear resistance: the lesser of (concrete + fibres) x b d + stirrups and struts, in mN; 0 or more. */
 
-/* The shear resistance of a record's section. Refusal 6, then 7 to 13, then 16; amount is then 0. Where nothing is refused it is 0 too
- * if tension takes all that the concrete bears and neither fibres nor stirrups bear anything. */
+/* The shear resistance of a record's section, in mN. Refusal 6, then 7 to 13, then 16; amount is then 0. Where nothing is refused it is
+ * 0 too if tension takes all that the concrete bears and neither fibres nor stirrups bear anything. */
 fw_amount fw_shear(const uint8_t *record, size_t len);
 
 #ifdef __cplusplus

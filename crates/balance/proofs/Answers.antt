@@ -13,7 +13,7 @@ use Rattle.section.specs.declared.Section.{Section}
 use Rattle.section.specs.Refusal.{within}
 use Rattle.law.specs.declared.LawAnswer.{LawAnswer}
 use Rattle.law.specs.Law.{lawAnswer}
-use Rattle.law.proofs.Answers.{number, refuses, accepts}
+use Rattle.law.proofs.Answers.{number, some-refusal, no-refusal}
 use Rattle.balance.specs.declared.Listing.{Listing}
 use Rattle.balance.specs.Depths.{lastDepth, listed, words}
 use Rattle.balance.specs.Answers.{gridRefusal, answered, noAmount, amountAnswer, listRefusal, unlisted, listAnswer, rowAfter}
@@ -27,17 +27,17 @@ module _ (s : Section) (a : LawAnswer) (is : a ≡ lawAnswer s) where
     pub refuses-section : (a .refusal ≡ 0 → ⊥) → noAmount (a .refusal) ≡ amountAnswer s x z
     unfolding amountAnswer gridRefusal
     refuses-section h =
-        let t = refuses s is h in
+        let t = some-refusal s is h in
         rw (t, t, number s is)
 
     module _ (ok : a .refusal ≡ 0) where
       pub refuses-depth : within 1 (lastDepth s) x ≡ false → noAmount 18 ≡ amountAnswer s x z
       unfolding amountAnswer gridRefusal
-      refuses-depth e = rw (accepts s is ok, e)
+      refuses-depth e = rw (no-refusal s is ok, e)
 
       pub answers : within 1 (lastDepth s) x ≡ true → answered z ≡ amountAnswer s x z
       unfolding amountAnswer gridRefusal
-      answers e = rw (accepts s is ok, e)
+      answers e = rw (no-refusal s is ok, e)
 
   -- ---- the list
   module _ (row : List ℤ) where
@@ -47,13 +47,13 @@ module _ (s : Section) (a : LawAnswer) (is : a ≡ lawAnswer s) where
     pub refuses-list : (a .refusal ≡ 0 → ⊥) → Answers (unlisted (a .refusal)) row
     unfolding listAnswer listRefusal rowAfter
     refuses-list h =
-        let t = refuses s is h in
+        let t = some-refusal s is h in
         (rw (t, number s is), rw (t, t))
 
     module _ (n : ℕ) (count : n ≡ length (listed s)) (ok : a .refusal ≡ 0) where
       pub lists-none : n ≡ 0 → Answers (unlisted 14) row
       unfolding listAnswer listRefusal rowAfter
-      lists-none e = let z = accepts s is ok in let c = sym count ∙ e in (rw (z, c), rw (z, c))
+      lists-none e = let z = no-refusal s is ok in let c = sym count ∙ e in (rw (z, c), rw (z, c))
 
       module _ (has : n ≡ 0 → ⊥) where
         there : ltb 0 (length (listed s)) ≡ true
@@ -62,13 +62,13 @@ module _ (s : Section) (a : LawAnswer) (is : a ≡ lawAnswer s) where
         pub lists-short : length row < 3 * n → Answers (record { refusal = 15; count = n }) row
         unfolding listAnswer listRefusal rowAfter
         lists-short h =
-            let z = accepts s is ok in
+            let z = no-refusal s is ok in
             let f = lt-leb (3 * length (listed s)) (length row) (rw count at h) in
             (rw (z, there, f, count), rw (z, there, f))
 
         pub lists : 3 * n ≤ length row → Answers (record { refusal = 0; count = n }) (words (listed s) ++ drop (3 * length (listed s)) row)
         unfolding listAnswer listRefusal rowAfter
         lists h =
-            let z = accepts s is ok in
+            let z = no-refusal s is ok in
             let f = le-leb (3 * length (listed s)) (length row) (rw count at h) in
             (rw (z, there, f, count), rw (z, there, f))

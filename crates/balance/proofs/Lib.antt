@@ -1,5 +1,6 @@
 pub mod Strains
 pub mod Strips
+pub mod Load
 pub mod Kept
 pub mod Listed
 pub mod Signs

@@ -23,12 +23,12 @@ module _ (s : Section) {a : LawAnswer} (is : a ≡ lawAnswer s) where
   pub number : a .refusal ≡ sectionRefusal s
   number = ap (λ (x : LawAnswer). x .refusal) is ∙ answer-refusal s
 
-  pub refuses : (a .refusal ≡ 0 → ⊥) → eqb (sectionRefusal s) 0 ≡ false
-  refuses h = ne-eqb (sectionRefusal s) 0 (λ k. h (number ∙ k))
+  pub some-refusal : (a .refusal ≡ 0 → ⊥) → eqb (sectionRefusal s) 0 ≡ false
+  some-refusal h = ne-eqb (sectionRefusal s) 0 (λ k. h (number ∙ k))
 
-  pub accepts : a .refusal ≡ 0 → sectionRefusal s ≡ 0
-  accepts h = sym number ∙ h
+  pub no-refusal : a .refusal ≡ 0 → sectionRefusal s ≡ 0
+  no-refusal h = sym number ∙ h
 
   -- what is known of a section that is not refused
   pub passes : a .refusal ≡ 0 → Accepted s × (a .law ≡ lawOf s)
-  passes h = (accepted s (accepts h), ap (λ (x : LawAnswer). x .law) is ∙ answer-law s (accepts h))
+  passes h = (accepted s (no-refusal h), ap (λ (x : LawAnswer). x .law) is ∙ answer-law s (no-refusal h))

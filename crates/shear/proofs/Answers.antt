@@ -7,7 +7,7 @@ use borrow.Author.Tests.{lt-ltb}
 use Rattle.section.specs.declared.Section.{Section}
 use Rattle.law.specs.declared.LawAnswer.{LawAnswer}
 use Rattle.law.specs.Law.{lawAnswer}
-use Rattle.law.proofs.Answers.{number, refuses, accepts}
+use Rattle.law.proofs.Answers.{number, some-refusal, no-refusal}
 use Rattle.balance.specs.Answers.{answered, noAmount}
 use Rattle.shear.specs.Shear.{resistance, shearRefusal, shearAnswer}
 
@@ -15,13 +15,13 @@ module _ (s : Section) (a : LawAnswer) (is : a ≡ lawAnswer s) where
   pub refuses-section : (a .refusal ≡ 0 → ⊥) → noAmount (a .refusal) ≡ shearAnswer s
   unfolding shearAnswer shearRefusal
   refuses-section h =
-      let t = refuses s is h in
+      let t = some-refusal s is h in
       rw (t, t, number s is)
 
   pub refuses-without-bars : a .refusal ≡ 0 → s .count ≡ 0 → noAmount 16 ≡ shearAnswer s
   unfolding shearAnswer shearRefusal
-  refuses-without-bars ok e = rw (accepts s is ok, e)
+  refuses-without-bars ok e = rw (no-refusal s is ok, e)
 
   pub resists : (r : ℕ) → r ≡ resistance s → a .refusal ≡ 0 → (s .count ≡ 0 → ⊥) → answered (pos r) ≡ shearAnswer s
   unfolding shearAnswer shearRefusal
-  resists r e ok h = rw (accepts s is ok, lt-ltb 0 (s .count) (pos-of-ne-zero h), e)
+  resists r e ok h = rw (no-refusal s is ok, lt-ltb 0 (s .count) (pos-of-ne-zero h), e)

@@ -11,11 +11,17 @@ use Rattle.law.proofs.Ranges.{depth-in}
 use Rattle.balance.specs.Forces.{concreteArea}
 
 -- d, and b d
-pub web-in : {s : Section} (d : ℕ) → Accepted s → d ≡ effectiveDepth s → (0 < d) × (d ≤ 1000) × (0 < s .b * d) × (s .b * d ≤ 2000000)
+pub record WebIn (b d : ℕ) : Type 0 where
+  pub some : 0 < d
+  pub most : d ≤ 1000
+  pub area : 0 < b * d
+  pub area-most : b * d ≤ 2000000
+
+pub web-in : {s : Section} (d : ℕ) → Accepted s → d ≡ effectiveDepth s → WebIn (s .b) d
 web-in {s} d a e =
     let k : (0 < d) × (d ≤ 1000) = rw e (depth-in a) in
     let w : 0 < s .b = omega (arith, a .width .0) in
-    (k .0, k .1, NatL.mul-pos w (k .0), NatL.mul-le-mul {n₂ = 2000} {m₂ = 1000} (a .width .1) (k .1))
+    record { some = k .0; most = k .1; area = NatL.mul-pos w (k .0); area-most = NatL.mul-le-mul {n₂ = 2000} {m₂ = 1000} (a .width .1) (k .1) }
 
 pub concrete-area : (s : Section) → concreteArea s ≡ s .b * s .h
 concrete-area s = sum-alike (s .h) (s .b)

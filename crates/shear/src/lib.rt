@@ -1,4 +1,4 @@
-// The shear that a section resists (document 01, 'Shear'). Stress in kPa, shear in mN.
+// The shear that a section resists (document 01, 'Shear').
 ghost use mathlib.Core.Path.{_≡_};
 ghost use Prim.Native.Nat.{_+_, _*_, _^_, _≤_, _<_, min, max};
 ghost use lib.IntN.{natAbs};
@@ -50,7 +50,7 @@ fn raised(cube: bool, by: u64, n: u64) -> u64
     if cube { square * n * by } else { square * by }
 }
 
-// The largest n with n² or n³, times a number, at most `bound`.
+// The largest n with n² or n³, times a number, at most `bound`: counting up, n fits and the next number does not.
 fn root(cube: bool, by: u64, bound: u64) -> u64
     requires { ⌜ (by ≤ 2000000) × (bound < raised cube by pastRoots) ⌝ }
     ensures { λ r. ⌜ (r ≡ largest (raised cube by) bound) × (r < pastRoots) ⌝ }
@@ -62,6 +62,7 @@ fn root(cube: bool, by: u64, bound: u64) -> u64
     n
 }
 
+// k in thousandths.
 fn k_of(d: u64) -> u64
     requires { ⌜ (0 < d) × (d ≤ 1000) ⌝ }
     ensures { λ r. ⌜ (r ≡ kOf d) × (r ≤ 2000) ⌝ }
@@ -69,6 +70,7 @@ fn k_of(d: u64) -> u64
     least(1000 + root(false, d, 200000000), 2000)
 }
 
+// c in thousandths, by b d, As and fck.
 fn c_of(bd: u64, steel: u64, fck: u64) -> u64
     requires { ⌜ (0 < bd) × (bd ≤ 2000000) × (steel ≤ 65535 * 8) × (fck ≤ 50) ⌝ }
     ensures { λ r. ⌜ (r ≡ cOf bd steel fck) × (r < pastRoots) ⌝ }
@@ -89,6 +91,7 @@ fn floor_div(n: i64, d: u64) -> i64
     if n < 0 { -1 - (-1 - n) / by } else { n / by }
 }
 
+// 15 N / (100 b h), with N in mN.
 fn axial_share(section: Section) -> i64
     requires { ⌜ Accepted section ⌝ }
     ensures { λ r. ⌜ (r ≡ axialShare section) × (natAbs r ≤ mostAxial) ⌝ }
@@ -106,6 +109,7 @@ fn at_least_zero(z: i64) -> u64
     if z < 0 { 0 } else { z as u64 }
 }
 
+// In kPa, with the axial share.
 fn concrete_share(section: Section, d: u64) -> u64
     requires { ⌜ (Accepted section) × (d ≡ effectiveDepth section) ⌝ }
     ensures { λ r. ⌜ (r ≡ concreteShare section) × (r ≤ mostConcrete) ⌝ }
@@ -119,6 +123,7 @@ fn concrete_share(section: Section, d: u64) -> u64
     at_least_zero(share as i64 + axial_share(section))
 }
 
+// In kPa.
 fn fibre_share(feq3: u64, d: u64) -> u64
     requires { ⌜ (feq3 ≤ 20000) × (d ≤ 1000) ⌝ }
     ensures { λ r. ⌜ (r ≡ fibreShare feq3 d) × (r ≤ 4000) ⌝ }
@@ -126,6 +131,7 @@ fn fibre_share(feq3: u64, d: u64) -> u64
     12 * feq3 / 100 * most(1000, 1600 - d) / 1000
 }
 
+// In mN; the spacing is ignored where there are none.
 fn stirrups(asw: u16, d: u64, fyd: u64, spacing: u16) -> u64
     requires { ⌜ (d ≤ 1000) × (fyd ≤ 521739) × (0 < asw → 0 < spacing) ⌝ }
     ensures { λ r. ⌜ (r ≡ stirrups asw d fyd spacing) × (r ≤ mostShear) ⌝ }
@@ -136,6 +142,7 @@ fn stirrups(asw: u16, d: u64, fyd: u64, spacing: u16) -> u64
     9 * (asw as u64) * d * fyd / (10 * (spacing as u64))
 }
 
+// In mN.
 fn struts(fck: u64, bd: u64) -> u64
     requires { ⌜ (fck ≤ 50) × (bd ≤ 2000000) ⌝ }
     ensures { λ r. ⌜ (r ≡ struts fck bd) × (r ≤ mostShear) ⌝ }
@@ -143,6 +150,7 @@ fn struts(fck: u64, bd: u64) -> u64
     most(500, 700 - 5 * fck) * (2000 * fck / 3) * (9 * bd) / 20000
 }
 
+// The lesser of the sum and the struts, in mN.
 fn resistance(section: Section, fyd: u64) -> u64
     requires { ⌜ (Accepted section) × (fyd ≡ lawOf section .fyd) ⌝ }
     ensures { λ r. ⌜ (r ≡ resistance section) × (r ≤ mostShear) ⌝ }

@@ -2,15 +2,15 @@
 use Prim.Native.Nat.{_+_, _*_}
 use mathlib.Core.Path.{ap, _∙_}
 use native.Mathlib.Omega.{arith}
-use lib.IntN.{ℤ, pos, _+ℤ_, _*ℤ_}
-use mir.Syntax.{w32}
-use mir.Val.{toZ, ofZ}
+use lib.IntN.{ℤ, _+ℤ_}
 use borrow.Author.Needs.{needs}
-use Rattle.arith.proofs.Machine.{back, Stands, returned, stands, stands-i32, stands-add, stands-sub, stands-mul, stands-fits, stored}
+use Rattle.arith.proofs.Machine.{back, Stands, returned, stands, stands-add, stands-sub, stands-fits, stored}
+use Rattle.section.specs.Accepted.{Accepted}
 use Rattle.law.specs.Law.{lawOf}
 use Rattle.law.specs.Stress.{rounded}
-use Rattle.balance.specs.Forces.{forces, loadOf, imbalance}
+use Rattle.balance.specs.Forces.{forces, imbalance}
 use Rattle.balance.specs.Code.{mostForce}
+use Rattle.balance.proofs.Load.{load-held, load-in-mN}
 use Rattle.balance.proofs.imbalance_at.Statement.{statement}
 use Rattle.balance.proofs.imbalance_at.Tie as tie
 
@@ -42,16 +42,13 @@ Met = tie.After-struct-told2
 abbrev begun : Met → tie.Start
 begun c = start (c .before .before)
 
-load : (c : Met) → Stands (toZ w32 (ofZ w32 (begun c .args .section .load))) (begun c .args .section .load) 10000000
-load c = stands-i32 (begun c .args .section .load) 10000000 (begun c .pre .0 .load) (omega arith)
-
-outside : (c : Met) → Stands (pos 1000 *ℤ back (toZ w32 (ofZ w32 (begun c .args .section .load)))) (loadOf (begun c .args .section)) (1000 * 10000000)
-outside c = stands-mul (stands (pos 1000) 1000 (omega arith)) (stored (load c) (omega arith))
+accepted : (c : Met) → Accepted (begun c .args .section)
+accepted c = begun c .pre .0
 
 returns : tie.Need-returns
 unfolding imbalance
 returns c =
-    let all = stands-sub (stored (inside (c .before .before)) (omega arith)) (stored (outside c) (omega arith)) in
+    let all = stands-sub (stored (inside (c .before .before)) (omega arith)) (stored (load-in-mN (accepted c)) (omega arith)) in
     stored all (omega arith) .is ∙ ap (imbalance (begun c .args .section)) (c .before .before .before .before .before .before .axis-at .ensures .0)
 
 pub imbalance-at-spec : {M : Type 1} → statement M
@@ -62,7 +59,7 @@ imbalance-at-spec =
     (λ c κs. (c .before .pre .0, c .before .pre .1, c .axis-at .ensures .1))
     strips-force-requires
     (λ c. stands-fits (inside c) (omega arith))
-    (λ c. stands-fits (load c) (omega arith))
-    (λ c. stands-fits (outside c) (omega arith))
-    (λ c. stands-fits (stands-sub (stored (inside (c .before .before)) (omega arith)) (stored (outside c) (omega arith))) (omega arith))
+    (λ c. stands-fits (load-held (accepted c)) (omega arith))
+    (λ c. stands-fits (load-in-mN (accepted c)) (omega arith))
+    (λ c. stands-fits (stands-sub (stored (inside (c .before .before)) (omega arith)) (stored (load-in-mN (accepted c)) (omega arith))) (omega arith))
     returns)

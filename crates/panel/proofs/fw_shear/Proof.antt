@@ -10,7 +10,9 @@ use Rattle.panel.proofs.fw_shear.Tie as tie
 
 returns : tie.Need-returns
 unfolding shearOf
-returns c = c .refused .ensures ∙ refuses-record _ shearAnswer noAmount _ (c .before .before .before .section-of .ensures) (c .before .if1 .taken)
+returns c =
+    let is : c .refused .result ≡ noAmount (c .before .before .before .section-of .result .refusal) = c .refused .ensures in
+    is ∙ refuses-record _ shearAnswer noAmount _ (c .before .before .before .section-of .ensures) (c .before .if1 .taken)
 
 returns-2 : tie.Need-returns-2
 unfolding shearOf

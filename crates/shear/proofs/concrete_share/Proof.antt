@@ -1,5 +1,5 @@
 -- `concrete_share`: k and c, and the axial share. Assumes nothing.
-use Prim.Native.Nat.{ℕ, _+_, _*_, _/_, _≤_, _<_}
+use Prim.Native.Nat.{ℕ, _+_, _*_, _/_, _≤_}
 use mathlib.Core.Path.{_≡_, ap, _∙_}
 use native.Mathlib.Nat as NatL
 use native.Mathlib.Omega.{arith}
@@ -11,11 +11,11 @@ use Rattle.arith.proofs.Machine.{back, Stands, stands-pos, returned, stands-add
 use Rattle.law.specs.Law.{effectiveDepth}
 use Rattle.shear.specs.Shear.{steelArea, kOf, cOf, atLeastZero, axialShare, concreteShare}
 use Rattle.shear.specs.Code.{pastRoots, mostAxial, mostConcrete}
-use Rattle.shear.proofs.Ranges.{web-in}
+use Rattle.shear.proofs.Ranges.{WebIn, web-in}
 use Rattle.shear.proofs.concrete_share.Statement.{statement}
 use Rattle.shear.proofs.concrete_share.Tie as tie
 
-web : (c : tie.Start) → let a = c .args in (0 < a .d) × (a .d ≤ 1000) × (0 < a .section .b * a .d) × (a .section .b * a .d ≤ 2000000)
+web : (c : tie.Start) → WebIn (c .args .section .b) (c .args .d)
 web c = web-in (c .args .d) (c .pre .0) (c .pre .1)
 
 -- 12 k c
@@ -59,11 +59,11 @@ concrete-share-spec =
     tie.close
     (tie.spec
     (λ c. search needs)
-    (λ c. record { fits = omega (arith, web (c .before)) })
+    (λ c. record { fits = omega (arith, web (c .before) .area-most) })
     (λ c κs. search needs)
     (λ c. search needs)
-    (λ c κs. let w = web (c .before .before .before) in (w .2, w .3, c .before .steel-area .ensures .1, c .before .before .before .pre .0 .concrete .1))
-    (λ c κs. let w = web (c .before .before .before .before) in (w .0, w .1))
+    (λ c κs. let w = web (c .before .before .before) in (w .area, w .area-most, c .before .steel-area .ensures .1, c .before .before .before .pre .0 .concrete .1))
+    (λ c κs. let w = web (c .before .before .before .before) in (w .some, w .most))
     (λ c. search needs)
     (λ c. record { fits = omega (arith, product c) })
     (λ c. record { sfits = omega (arith, product c) })

@@ -1,6 +1,6 @@
 -- `k_of`: the root, then the limit. Assumes nothing.
 use Prim.Native.Nat.{_+_, min}
-use mathlib.Core.Path.{ap, _∙_}
+use mathlib.Core.Path.{_≡_, ap, _∙_}
 use native.Mathlib.Nat.{min-le-right}
 use native.Mathlib.Omega.{arith}
 use borrow.Author.Needs.{needs}
@@ -10,7 +10,9 @@ use Rattle.shear.proofs.k_of.Tie as tie
 
 returns : tie.Need-returns
 unfolding kOf
-returns c = (c .least .ensures ∙ ap (λ r. min (1000 + r) 2000) (c .before .root .ensures .0), omega (arith, c .least .ensures, min-le-right (1000 + c .before .root .result) 2000))
+returns c =
+    let is : c .least .result ≡ min (1000 + c .before .root .result) 2000 = c .least .ensures in
+    (is ∙ ap (λ r. min (1000 + r) 2000) (c .before .root .ensures .0), omega (arith, is, min-le-right (1000 + c .before .root .result) 2000))
 
 pub k-of-spec : {M : Type 1} → statement M
 k-of-spec = tie.close (tie.spec (λ c κs. search needs) (λ c. search needs) (λ c κs. search needs) returns)

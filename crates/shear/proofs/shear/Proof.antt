@@ -11,7 +11,9 @@ use Rattle.shear.proofs.shear.Statement.{statement}
 use Rattle.shear.proofs.shear.Tie as tie
 
 returns : tie.Need-returns
-returns c = c .refused .ensures ∙ refuses-section _ _ (c .before .before .before .of .ensures) (c .before .if1 .taken)
+returns c =
+    let is : c .refused .result ≡ noAmount (c .before .before .before .of .result .refusal) = c .refused .ensures in
+    is ∙ refuses-section _ _ (c .before .before .before .of .ensures) (c .before .if1 .taken)
 
 returns-2 : tie.Need-returns-2
 returns-2 c =
