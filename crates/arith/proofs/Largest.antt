@@ -39,11 +39,14 @@ largest-is {f} {m} c h =
     let r = last-is (λ n. leb (f n) m) m (le-leb (f 0) m h) in
     record { fits = leb-true _ _ (r .0); most = λ k j. r .1 k (omega (arith, c .above k)) (le-leb (f k) m j) }
 
+-- what satisfies it is the number
+pub found : {f : ℕ → ℕ} {m n : ℕ} → Climbs f → Largest f m n → n ≡ largest f m
+found {n = n} c h = largest-only h (largest-is c (omega (arith, c .rises 0 n (omega arith), h .fits)))
+
 -- a number that fits is below one that is too large
 pub fits-below : {f : ℕ → ℕ} {m : ℕ} (n k : ℕ) → Climbs f → f n ≤ m → m < f k → n < k
 fits-below n k c fits large = ⊎-elim (λ j. absurd (omega (arith, c .rises k n (omega arith)))) (λ j. omega arith) (NatL.eq-zero-or-pos (k - n))
 
--- and it is where the next number is too large
-pub counted-up : {f : ℕ → ℕ} {m n : ℕ} → Climbs f → f n ≤ m → m < f (n + 1) → n ≡ largest f m
-counted-up {f} {m} {n} c fits next =
-    largest-only (record { fits = fits; most = λ k h. omega (arith, fits-below k (n + 1) c h next) }) (largest-is c (omega (arith, c .rises 0 n (omega arith))))
+-- so the largest is where the next number is too large
+pub counted-up : {f : ℕ → ℕ} {m n : ℕ} → Climbs f → f n ≤ m → m < f (n + 1) → Largest f m n
+counted-up {n = n} c fits next = record { fits = fits; most = λ k h. omega (arith, fits-below k (n + 1) c h next) }

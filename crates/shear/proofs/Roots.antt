@@ -7,7 +7,7 @@ use native.Mathlib.Omega.{arith}
 use lib.Dec.{ltb, leb}
 use borrow.Author.Tests.{ltb-true, leb-true}
 use Rattle.arith.specs.Largest.{largest}
-use Rattle.arith.proofs.Largest.{Climbs, counted-up}
+use Rattle.arith.proofs.Largest.{Climbs, found, counted-up}
 use Rattle.shear.specs.Code.{raised, pastRoots}
 
 -- ---- they climb
@@ -39,7 +39,9 @@ some-factor cube bound (suc by) n h = omega arith
 
 -- the largest, by what it and the next come to
 pub root-is : (cube : Bool) (by bound n : ℕ) → 0 < by → leb (raised cube by n) bound ≡ true → ltb bound (raised cube by (n + 1)) ≡ true → largest (raised cube by) bound ≡ n
-root-is cube by bound n h fits next = sym (counted-up (raised-climbs cube by h) (leb-true _ _ fits) (ltb-true _ _ next))
+root-is cube by bound n h fits next =
+    let c = raised-climbs cube by h in
+    sym (found c (counted-up c (leb-true _ _ fits) (ltb-true _ _ next)))
 
 -- ---- how large they get
 module _ (n by : ℕ) (small : n ≤ pastRoots) (few : by ≤ 2000000) where

@@ -3,7 +3,7 @@ ghost use mathlib.Core.Path.{_≡_};
 ghost use Prim.Native.Nat.{_+_, _*_, _^_, _≤_, _<_, min, max};
 ghost use lib.IntN.{natAbs};
 ghost use Rattle.arith.specs.Floor.{floorDiv};
-ghost use Rattle.arith.specs.Largest.{largest};
+ghost use Rattle.arith.specs.Largest.{Largest};
 ghost use Rattle.section.specs.Accepted.{Accepted};
 ghost use Rattle.law.specs.Law.{effectiveDepth, lawOf};
 ghost use Rattle.shear.specs.Shear.{steelArea, kOf, cOf, atLeastZero, axialShare, concreteShare, fibreShare, stirrups, struts, resistance, shearAnswer};
@@ -53,7 +53,7 @@ fn raised(cube: bool, by: u64, n: u64) -> u64
 // The largest n with n² or n³, times a number, at most `bound`: counting up, n fits and the next number does not.
 fn root(cube: bool, by: u64, bound: u64) -> u64
     requires { ⌜ (by ≤ 2000000) × (bound < raised cube by pastRoots) ⌝ }
-    ensures { λ r. ⌜ (r ≡ largest (raised cube by) bound) × (r < pastRoots) ⌝ }
+    ensures { λ r. ⌜ (Largest (raised cube by) bound r) × (r < pastRoots) ⌝ }
 {
     let mut n: u64 = 0;
     while raised(cube, by, n + 1) <= bound {

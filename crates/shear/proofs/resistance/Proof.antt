@@ -20,7 +20,8 @@ shares : (c : tie.After-fibre-share)
     → let w = c .before .before .before .before in
     (c .before .before .concrete-share .result + c .fibre-share .result) * (w .before .args .section .b * w .effective-depth .result) ≤ (mostConcrete + 4000) * 2000000
 shares c =
-    NatL.mul-le-mul {n₂ = mostConcrete + 4000} {m₂ = 2000000} (omega (arith, c .before .before .concrete-share .ensures .1, c .fibre-share .ensures .1)) (web (c .before .before .before .before) .area-most)
+    let concrete = c .before .before .concrete-share .ensures .1 in
+    NatL.mul-le-mul {n₂ = mostConcrete + 4000} {m₂ = 2000000} (omega (arith, concrete, c .fibre-share .ensures .1)) (web (c .before .before .before .before) .area-most)
 
 returns : tie.Need-returns
 unfolding resistance

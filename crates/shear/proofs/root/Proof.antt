@@ -1,4 +1,4 @@
--- `root`: counting up while the next number fits. Assumes nothing.
+-- `root`: counting up while the next number fits, it stops at the largest. Assumes nothing.
 use Prim.Native.Nat.{_-_, _≤_, _<_}
 use native.Mathlib.Omega.{arith}
 use Rattle.arith.proofs.Largest.{Climbs, fits-below, counted-up}
