@@ -15,19 +15,13 @@ pub sum-next : (f : ℕ → ℕ) (n : ℕ) → sumN (n + 1) f ≡ sumN n f + f n
 unfolding sumN
 sum-next f n = rw add-one
 
--- n terms that are alike
-pub sum-alike : (n c : ℕ) → sumN n (λ i. c) ≡ c * n
-unfolding sumN
-sum-alike zero c = sym (NatL.mul-zero c)
-sum-alike (suc n) c = rw (sum-alike n c) (sym (NatL.mul-suc c n))
-
 -- the terms from one on, and one more
 pub run-next : (f : ℕ → ℕ) (from i : ℕ) → from ≤ i → sumN (i + 1 - from) (after from f) ≡ sumN (i - from) (after from f) + f i
 unfolding sumN
 run-next f from i h =
     let one : i + 1 - from ≡ (i - from) + 1 = omega arith in
     let here : from + (i - from) ≡ i = omega arith in
-    rw (one, add-one) (ap (λ n. sumN (i - from) (after from f) + f n) here)
+    rw one (sum-next (after from f) (i - from) ∙ ap (λ n. sumN (i - from) (after from f) + f n) here)
 
 runs-joined : (f : ℕ → ℕ) (from m n : ℕ) → sumN (m + n) (after from f) ≡ sumN m (after from f) + sumN n (after (from + m) f)
 unfolding sumN
@@ -45,6 +39,10 @@ run-flat : (f : ℕ → ℕ) (c from n : ℕ) → ((i : ℕ) → from ≤ i → 
 unfolding sumN
 run-flat f c from zero h = sym (NatL.mul-zero c)
 run-flat f c from (suc n) h = rw (run-flat f c from n (λ i p q. h i p (omega arith)), h (from + n) (omega arith) (omega arith)) (sym (NatL.mul-suc c n))
+
+-- n terms that are alike
+pub sum-alike : (n c : ℕ) → sumN n (λ i. c) ≡ c * n
+sum-alike n c = run-flat (λ i. c) c 0 n (λ i p q. refl)
 
 run-none : (f : ℕ → ℕ) (from : ℕ) → sumN 0 (after from f) ≡ 0
 unfolding sumN

@@ -1,10 +1,10 @@
 -- Document 01, 'What is refused, tested in this order': 7 to 13.
-use Prim.Native.Nat.{ℕ, _*_, _-_, _%_}
+use Prim.Native.Nat.{ℕ, _-_, _%_}
 use mathlib.Core.Bool.{Bool, cond, _&&_, _||_}
 use lib.Dec.{ltb, leb, eqb}
 use lib.IntN.{natAbs}
 use Rattle.section.specs.declared.Section.{Section}
-use Rattle.section.specs.Section.{layerAt, layersRight}
+use Rattle.section.specs.Section.{layerAt, belowMid, layersRight}
 
 -- a line of the table: its number where its test fails, else what the lines below it say
 abbrev pub line : Bool → ℕ → ℕ → ℕ
@@ -21,9 +21,9 @@ within low high n = leb low n && leb n high
 abbrev pub inTable : ℕ → Bool
 inTable fck = within 20 50 fck && eqb (fck % 5) 0
 
--- where there are bars, twice the deepest's depth is more than h
+-- where there are bars, the deepest lies below mid-height
 unfoldable pub midRight : Section → Bool
-midRight s = eqb (s .count) 0 || ltb (s .h) (2 * layerAt (s .layers) (s .count - 1) .depth)
+midRight s = eqb (s .count) 0 || belowMid s (layerAt (s .layers) (s .count - 1) .depth)
 
 -- 0 where every line passes
 unfoldable pub sectionRefusal : Section → ℕ

@@ -1,5 +1,5 @@
 -- Document 01, 'What a section is': its bar layers. Depths in mm from the compressed face, areas in mm².
-use Prim.Native.Nat.{ℕ, zero, suc}
+use Prim.Native.Nat.{ℕ, zero, suc, _*_}
 use mathlib.Core.Bool.{Bool, true, _&&_}
 use mathlib.Core.List.{List, [], _∷_}
 use lib.Dec.{ltb, leb}
@@ -13,6 +13,10 @@ noLayer = record { depth = 0; area = 0 }
 -- the layer at a place, counted from 0
 abbrev pub layerAt : List Layer → ℕ → Layer
 layerAt ls j = getD ls j noLayer
+
+-- below mid-height: twice the depth is more than h
+abbrev pub belowMid : Section → ℕ → Bool
+belowMid s depth = ltb (s .h) (2 * depth)
 
 -- the n layers from place j on
 unfoldable pub layersFrom : List Layer → ℕ → ℕ → List Layer

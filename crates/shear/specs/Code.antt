@@ -7,16 +7,18 @@ use Rattle.shear.specs.Shear.{squared, cubed}
 abbrev pub raised : Bool → ℕ → ℕ → ℕ
 raised cube by n = cond cube (cubed by n) (squared by n)
 
--- ---- bounds. No root is so large: at d = 1, r is 14142
+-- ---- bounds, crude ones
+-- no root is so large: at d = 1, r is 14142
 abbrev pub pastRoots : ℕ
 pastRoots = 14143
 
--- the load's; a share of its own that concrete does not reach, and the load's; and what neither shares and stirrups nor struts reach
+-- the load's share, and the concrete's with it
 abbrev pub mostAxial : ℕ
 mostAxial = 15 * (1000 * 10000000)
 
 abbrev pub mostConcrete : ℕ
 mostConcrete = 1000000 + mostAxial
 
+-- the stirrups, and the struts
 abbrev pub mostShear : ℕ
 mostShear = 400000000000000

@@ -10,6 +10,7 @@ use Rattle.arith.specs.Sums.{sumN}
 use Rattle.arith.specs.Floor.{floorDiv}
 use Rattle.arith.specs.Largest.{largest}
 use Rattle.section.specs.declared.Section.{Section}
+use Rattle.section.specs.Section.{belowMid}
 use Rattle.section.specs.Refusal.{line, firstOf, sectionRefusal}
 use Rattle.law.specs.Law.{effectiveDepth, lawOf}
 use Rattle.balance.specs.declared.Amount.{Amount}
@@ -17,9 +18,8 @@ use Rattle.balance.specs.Forces.{concreteArea, depthAt, areaAt, loadOf}
 use Rattle.balance.specs.Answers.{answered, noAmount}
 
 -- ---- As, the area of layers below mid-height
--- that of layer j, where twice its depth is more than h
 abbrev pub areaBelow : Section → ℕ → ℕ
-areaBelow s j = cond (ltb (s .h) (2 * depthAt s j)) (areaAt s j) 0
+areaBelow s j = cond (belowMid s (depthAt s j)) (areaAt s j) 0
 
 unfoldable pub steelArea : Section → ℕ
 steelArea s = sumN (s .count) (areaBelow s)
