@@ -9,12 +9,12 @@ use Rattle.section.specs.declared.Section.{Section}
 use Rattle.section.specs.Accepted.{Accepted}
 use Rattle.balance.specs.Forces.{loadOf}
 
-module _ {s : Section} (a : Accepted s) where
-  abbrev pub loadHeld : ℤ
-  loadHeld = toZ w32 (ofZ w32 (s .load))
+abbrev pub loadHeld : Section → ℤ
+loadHeld s = toZ w32 (ofZ w32 (s .load))
 
-  pub load-held : Stands loadHeld (s .load) 10000000
+module _ {s : Section} (a : Accepted s) where
+  pub load-held : Stands (loadHeld s) (s .load) 10000000
   load-held = stands-i32 (s .load) 10000000 (a .load) (omega arith)
 
-  pub load-in-mN : Stands (pos 1000 *ℤ back loadHeld) (loadOf s) (1000 * 10000000)
+  pub load-in-mN : Stands (pos 1000 *ℤ back (loadHeld s)) (loadOf s) (1000 * 10000000)
   load-in-mN = stands-mul (stands (pos 1000) 1000 (omega arith)) (stored load-held (omega arith))

@@ -10,27 +10,28 @@ use Rattle.law.specs.Law.{effectiveDepth}
 use Rattle.law.proofs.Ranges.{depth-in}
 use Rattle.balance.specs.Forces.{concreteArea}
 
--- d, and b d
-pub record WebIn (b d : ℕ) : Type 0 where
-  pub some : 0 < d
-  pub most : d ≤ 1000
-  pub area : 0 < b * d
-  pub area-most : b * d ≤ 2000000
+-- a length, and b times it
+pub record AreaIn (b n : ℕ) : Type 0 where
+  pub some : 0 < n
+  pub most : n ≤ 1000
+  pub area : 0 < b * n
+  pub area-most : b * n ≤ 2000000
 
-pub web-in : {s : Section} (d : ℕ) → Accepted s → d ≡ effectiveDepth s → WebIn (s .b) d
-web-in {s} d a e =
-    let k : (0 < d) × (d ≤ 1000) = rw e (depth-in a) in
+times-width : {s : Section} → Accepted s → (n : ℕ) → 0 < n → n ≤ 1000 → AreaIn (s .b) n
+times-width {s} a n h k =
     let w : 0 < s .b = omega (arith, a .width .0) in
-    record { some = k .0; most = k .1; area = NatL.mul-pos w (k .0); area-most = NatL.mul-le-mul {n₂ = 2000} {m₂ = 1000} (a .width .1) (k .1) }
+    record { some = h; most = k; area = NatL.mul-pos w h; area-most = NatL.mul-le-mul {n₂ = 2000} {m₂ = 1000} (a .width .1) k }
+
+-- b d
+pub web-in : {s : Section} (d : ℕ) → Accepted s → d ≡ effectiveDepth s → AreaIn (s .b) d
+web-in d a e = let k = depth-in a in times-width a d (rw e (k .0)) (rw e (k .1))
+
+-- b h
+pub area-in : {s : Section} → Accepted s → AreaIn (s .b) (s .h)
+area-in {s} a = times-width a (s .h) (omega (arith, a .height .0)) (a .height .1)
 
 pub concrete-area : (s : Section) → concreteArea s ≡ s .b * s .h
 concrete-area s = sum-alike (s .h) (s .b)
-
-pub area-in : {s : Section} → Accepted s → (0 < s .b * s .h) × (s .b * s .h ≤ 2000000)
-area-in {s} a =
-    let w : 0 < s .b = omega (arith, a .width .0) in
-    let h : 0 < s .h = omega (arith, a .height .0) in
-    (NatL.mul-pos w h, NatL.mul-le-mul {n₂ = 2000} {m₂ = 1000} (a .width .1) (a .height .1))
 
 -- what c³ b d is held to; c³ b d itself is `raised-most`
 pub steel-product : (steel fck : ℕ) → steel ≤ 65535 * 8 → fck ≤ 50 → 100000000000 * steel * fck < 2 ^ 63

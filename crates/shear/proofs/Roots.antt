@@ -44,13 +44,13 @@ root-is cube by bound n h fits next =
     sym (found c (counted-up c (leb-true _ _ fits) (ltb-true _ _ next)))
 
 -- ---- how large they get
-module _ (n by : ℕ) (small : n ≤ pastRoots) (few : by ≤ 2000000) where
+module _ (n : ℕ) (small : n ≤ pastRoots) where
   pub square-most : n * n ≤ pastRoots * pastRoots
   square-most = NatL.mul-le-mul small small
 
   pub cube-most : n * n * n ≤ pastRoots * pastRoots * pastRoots
   cube-most = NatL.mul-le-mul square-most small
 
-  pub raised-most : (cube : Bool) → raised cube by n < 2 ^ 63
-  raised-most true = omega (arith, NatL.mul-le-mul cube-most few)
-  raised-most false = omega (arith, NatL.mul-le-mul square-most few)
+  pub raised-most : (by : ℕ) → by ≤ 2000000 → (cube : Bool) → raised cube by n < 2 ^ 63
+  raised-most by few true = omega (arith, NatL.mul-le-mul cube-most few)
+  raised-most by few false = omega (arith, NatL.mul-le-mul square-most few)

@@ -26,4 +26,4 @@ cube-root bd bound h = largest-is (raised-climbs true bd h) (omega arith)
 pub axial-floor : {s : Section} → Accepted s
     → let D = pos (100 * concreteArea s) in ((D *ℤ axialShare s) ≤ℤ (pos 15 *ℤ loadOf s)) × ((pos 15 *ℤ loadOf s) <ℤ ((D *ℤ axialShare s) +ℤ D))
 unfolding axialShare
-axial-floor {s} a = floor-is (pos 15 *ℤ loadOf s) (100 * concreteArea s) (omega (arith, concrete-area s, area-in a .0))
+axial-floor {s} a = floor-is (pos 15 *ℤ loadOf s) (100 * concreteArea s) (omega (arith, concrete-area s, area-in a .area))

@@ -16,7 +16,7 @@ use Rattle.shear.proofs.Ranges.{concrete-area, area-in}
 use Rattle.shear.proofs.axial_share.Statement.{statement}
 use Rattle.shear.proofs.axial_share.Tie as tie
 
-all : {s : Section} (a : Accepted s) → Stands (pos 15 *ℤ back (pos 1000 *ℤ back (loadHeld a))) (pos 15 *ℤ loadOf s) mostAxial
+all : {s : Section} (a : Accepted s) → Stands (pos 15 *ℤ back (pos 1000 *ℤ back (loadHeld s))) (pos 15 *ℤ loadOf s) mostAxial
 all a = stands-mul (stands (pos 15) 15 (omega arith)) (stored (load-in-mN a) (omega arith))
 
 returns : tie.Need-returns
@@ -24,7 +24,7 @@ unfolding axialShare
 returns c =
     let s = c .before .before .before .before .before .args .section in
     let a = c .before .before .before .before .before .pre in
-    let is : c .floor-div .result ≡ floorDiv (back (pos 15 *ℤ back (pos 1000 *ℤ back (loadHeld a)))) (100 * (s .b * s .h)) = c .floor-div .ensures .0 in
+    let is : c .floor-div .result ≡ floorDiv (back (pos 15 *ℤ back (pos 1000 *ℤ back (loadHeld s)))) (100 * (s .b * s .h)) = c .floor-div .ensures .0 in
     let r = read (record { sfits = c .floor-div .ok }) in
     (r ∙ is ∙ (λ i. floorDiv (stored (all a) (omega arith) .is i) (100 * sym (concrete-area s) i)), rw r (c .floor-div .ensures .1))
 

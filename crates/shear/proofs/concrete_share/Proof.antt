@@ -11,11 +11,11 @@ use Rattle.arith.proofs.Machine.{back, Stands, stands-pos, returned, stands-add
 use Rattle.law.specs.Law.{effectiveDepth}
 use Rattle.shear.specs.Shear.{steelArea, kOf, cOf, atLeastZero, axialShare, concreteShare}
 use Rattle.shear.specs.Code.{pastRoots, mostAxial, mostConcrete}
-use Rattle.shear.proofs.Ranges.{WebIn, web-in}
+use Rattle.shear.proofs.Ranges.{AreaIn, web-in}
 use Rattle.shear.proofs.concrete_share.Statement.{statement}
 use Rattle.shear.proofs.concrete_share.Tie as tie
 
-web : (c : tie.Start) → WebIn (c .args .section .b) (c .args .d)
+web : (c : tie.Start) → AreaIn (c .args .section .b) (c .args .d)
 web c = web-in (c .args .d) (c .pre .0) (c .pre .1)
 
 -- 12 k c

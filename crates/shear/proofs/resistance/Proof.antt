@@ -8,11 +8,11 @@ use Rattle.law.specs.Law.{effectiveDepth}
 use Rattle.law.proofs.Ranges.{law-in}
 use Rattle.shear.specs.Shear.{concreteShare, fibreShare, stirrups, struts, resistance}
 use Rattle.shear.specs.Code.{mostConcrete}
-use Rattle.shear.proofs.Ranges.{WebIn, web-in}
+use Rattle.shear.proofs.Ranges.{AreaIn, web-in}
 use Rattle.shear.proofs.resistance.Statement.{statement}
 use Rattle.shear.proofs.resistance.Tie as tie
 
-web : (c : tie.After-effective-depth) → WebIn (c .before .args .section .b) (c .effective-depth .result)
+web : (c : tie.After-effective-depth) → AreaIn (c .before .args .section .b) (c .effective-depth .result)
 web c = web-in (c .effective-depth .result) (c .before .pre .0) (c .effective-depth .ensures)
 
 -- both shares, times b d
