@@ -1,12 +1,19 @@
 # The section unit: the commands a reader needs. `make` alone lists them.
-.PHONY: help test bench run fmt clean
+.PHONY: help test bench run lib install fmt clean
+
+# The book that `make run` reads, and where `make install` puts what it installs.
+BOOK ?= crates/booklines/stdin
+PREFIX ?= /usr/local
+export BOOK PREFIX DESTDIR
 
 help:
-	@echo 'make test    prove every crate, then test the static library from C and from Rust'
-	@echo 'make bench   time the list of depths against plain C'
-	@echo 'make run     print the lines of the sample book'
-	@echo 'make fmt     lay out the Rattle and the Rust files'
-	@echo 'make clean   remove what was built'
+	@echo 'make test                  prove every crate, then test the static library from C and from Rust'
+	@echo 'make bench                 time the list of depths against plain C'
+	@echo 'make run [BOOK=file]       print the lines of a book, the sample book if none is named'
+	@echo 'make lib                   leave the static library in target/staticlib/libpanel.a'
+	@echo 'make install [PREFIX=dir]  install the header, the library and its pkg-config file, below /usr/local if nothing is named'
+	@echo 'make fmt                   lay out the Rattle and the Rust files'
+	@echo 'make clean                 remove what was built'
 
 test:
 	@tests/run
@@ -15,7 +22,21 @@ bench:
 	@bench/run
 
 run:
-	@echo 'not yet: the book program has not landed, so there are no lines to print'
+	@[ -r "$$BOOK" ] && [ ! -d "$$BOOK" ] || { echo "no book to read: $$BOOK" >&2; exit 1; }
+	@mkdir -p target
+	@rt check booklines >target/booklines.log 2>&1 || { cat target/booklines.log >&2; exit 1; }
+	@tests/start target/booklines target/bin/booklines
+	@target/booklines <"$$BOOK"
+
+lib:
+	@rt staticlib panel
+
+install: lib
+	@install -d "$$DESTDIR$$PREFIX/include" "$$DESTDIR$$PREFIX/lib/pkgconfig"
+	@install -m 644 include/fordwhistle.h "$$DESTDIR$$PREFIX/include"
+	@install -m 644 target/staticlib/libpanel.a "$$DESTDIR$$PREFIX/lib"
+	@sed "s|@PREFIX@|$$(realpath -ms "$$PREFIX")|" fordwhistle.pc.in >target/fordwhistle.pc
+	@install -m 644 target/fordwhistle.pc "$$DESTDIR$$PREFIX/lib/pkgconfig"
 
 fmt:
 	@rt fmt

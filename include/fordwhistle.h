@@ -1,9 +1,16 @@
-/* fordwhistle.h: the section unit, for the panel's C program. Link libpanel.a.
+/* fordwhistle.h: the section unit, for the panel's C program. Link libpanel.a; installed, by `pkg-config --cflags --libs fordwhistle`.
  *
  * Every function takes any input, returns, keeps nothing and calls nothing. An answer begins with its refusal: 0 where the call is
  * answered, else the first number below that holds of those that concern the call, and every other number of the answer is then 0
- * (of a double, plus zero), save the count beside 15. A refused call writes nothing.
+ * (of a double, plus zero), save the count beside 15. A refused call writes nothing, and of all functions only fw_depths writes at all,
+ * into the row that it is lent.
  *
+ *    1  book shorter than 16 bytes, longer than 65536, or not of its stated length
+ *    2  book whose last four bytes are not BOOK
+ *    3  place of the index + 4n + 16 is not the length; the sum is exact, also where it is 2 to the 32 or more
+ *    4  first record (or, where n is 0, the index) not at 0, a layer count over 8, or a record that runs past the index or does not end
+ *       where the next (or the index) starts
+ *    5  record asked for is n or more
  *    6  record not 24 + 4m bytes, m over 8, or the zero not zero
  *    7  concrete not in the table: fck is none of 20, 25, 30, 35, 40, 45, 50
  *    8  b outside 50 to 2000, or h outside 50 to 1000
@@ -48,8 +55,45 @@ extern "C" {
  *   24 + 4j  16         depth of bar layer j from the compressed face, for each j from 0 to m-1
  *   26 + 4j  16         its area
  *
- * A function that takes one takes a pointer, never null, to len bytes that may be read. It reads no other byte and writes none, save the
- * row that is lent to fw_depths. len is any length, 0 too: what is wrong with it is refused. */
+ * A record stands alone or in a book, the same bytes in both. */
+
+/* A book is the bytes of n records and of an index to them, 16 to 65536 bytes in all, little-endian, without padding and at any address:
+ *
+ *   byte        bits
+ *   0                the records, one after another, each of 24 + 4m bytes by its own m
+ *   index + 4k  32   place of record k, the byte of the book at which it starts, for each k from 0 to n-1
+ *   len - 16    32   place of the index, the byte at which the last record ends
+ *   len - 12    32   n, the number of records; 0 too, and the index is then at 0
+ *   len - 8     32   length of the book, len
+ *   len - 4     32   the letters BOOK, the B at len - 4
+ *
+ * A function that takes a record or a book takes a pointer to len bytes that may be read. It reads no other byte and writes none of them.
+ * len is any length, 0 too: what is wrong with it is refused. Where len is 0 the pointer may be null; a book is then refused 1, a record
+ * 6, as any other of no bytes. */
+
+/* What a book holds.
+ * count: n, the number of its records. */
+typedef struct {
+    uint32_t refusal, count;
+} fw_book_answer;
+
+/* How many records a book has; it may have none, and count is then 0 beside 0. Refusal 1, then 2, 3 and 4; count is then 0. Writes nothing.
+ * Of its records only the places and the layer counts are looked at. What else is wrong with one is for the functions that take a record
+ * to refuse. */
+fw_book_answer fw_book(const uint8_t *book, size_t len);
+
+/* A record of a book, as a part of the caller's book, not copied: the len bytes from book + at.
+ * at: the record's place.
+ * len: 24 + 4m, where m, its layer count, is at most 8. */
+typedef struct {
+    uint32_t refusal, at, len;
+} fw_record_answer;
+
+/* The record of this number in a book, the first being 0. Refusal 1 to 4 as fw_book, whichever record is asked for, then 5 where number is
+ * n or more, so of a book of no records always; at and len are then 0, an empty part. Writes nothing.
+ * book + at and len are handed on as they are, at whatever address that is, to the functions below that take a record. These can still
+ * refuse the record of a good book: 6 where its zero is not zero, and 7 to 13. An empty part they refuse 6. */
+fw_record_answer fw_record(const uint8_t *book, size_t len, uint32_t number);
 
 /* The class of a fibre concrete.
  * step: the largest of 1000, 1500, 2000, 2500, 3000, 3500, 4000, 4500, 5000, 6000, 7000, 8000 that is at most fR1; the step itself,
@@ -59,7 +103,8 @@ typedef struct {
     uint32_t refusal, step, letter;
 } fw_class_answer;
 
-/* The class from fR1 and fR3, each in kPa. Refusal 17 where fR1 is below 1000, then where fR3 is below half the step. */
+/* The class from fR1 and fR3, each in kPa, 0 to 65535. Refusal 17 where fR1 is below 1000, then where fR3 is below half the step; step and
+ * letter are then 0. Writes nothing. */
 fw_class_answer fw_class(uint16_t fr1, uint16_t fr3);
 
 /* A drawn point of the law of a section's concrete.
@@ -86,7 +131,8 @@ typedef struct {
     fw_point point;
 } fw_drawn;
 
-/* The point of a record's section at a whole strain. Refusal 6, then 7 to 13, then 18; strain and stress are then plus zero. */
+/* The point of a record's section at a whole strain. Refusal 6, then 7 to 13, then 18 where strain is below -10000 or above 3500; strain
+ * and stress are then plus zero. Writes nothing. */
 fw_drawn fw_draw(const uint8_t *record, size_t len, int32_t strain);
 
 /* One number of a section.
@@ -107,10 +153,12 @@ typedef struct {
  * imbalance: compression forces minus tension forces minus the axial load, in mN.
  * moment: about mid-height, the sum of each force times twice its distance, in mN half-mm; positive where the compressed face is on top. */
 
-/* The imbalance of a record's section at depth x. Refusal 6, then 7 to 13, then 18 where x is 0 or more than h; amount is then 0. */
+/* The imbalance of a record's section at depth x. Refusal 6, then 7 to 13, then 18 where x is 0 or more than h; amount is then 0.
+ * Where nothing is refused it is 0 too if the forces balance at x. Writes nothing. */
 fw_amount fw_imbalance(const uint8_t *record, size_t len, uint32_t x);
 
-/* The moment of a record's section at depth x, balanced or not. Refused as fw_imbalance is. */
+/* The moment of a record's section at depth x, balanced or not. Refused as fw_imbalance is; amount is then 0. A moment can also be
+ * below 0. Writes nothing. */
 fw_amount fw_moment(const uint8_t *record, size_t len, uint32_t x);
 
 /* The depths at which a section balances.
@@ -124,8 +172,9 @@ typedef struct {
 /* Writes the listed depths of a record's section into a lent row, three words each: x, its kind, the moment at x. The words after them
  * stay. Refusal 6, then 7 to 13, then 14, and count is then 0; then 15 where words is less than 3 times the number of listed depths,
  * and count is then that number. On any refusal the whole row stays.
- * row is a pointer, never null, to as many words as said that may be read and written; none of them is part of the record. words is any
- * number, 0 too. 3 h words hold every list of a section of height h, so 3000 the list of any section. */
+ * row is a pointer to as many words as said that may be read and written; none of them is part of the record. words is any number, 0 too,
+ * and row may then be null: where there is a depth to list, that is refused 15 and so asks for the count alone. 3 h words hold every list
+ * of a section of height h, so 3000 the list of any section. */
 fw_listed fw_depths(const uint8_t *record, size_t len, int64_t *row, size_t words);
 
 /* The shear resistance of a section with bars. d and fyd are as above. As is the area of the layers below mid-height (twice the depth is
@@ -141,7 +190,7 @@ fw_listed fw_depths(const uint8_t *record, size_t len, int64_t *row, size_t word
  * shear resistance: the lesser of (concrete + fibres) x b d + stirrups and struts, in mN; 0 or more. */
 
 /* The shear resistance of a record's section, in mN. Refusal 6, then 7 to 13, then 16; amount is then 0. Where nothing is refused it is
- * 0 too if tension takes all that the concrete bears and neither fibres nor stirrups bear anything. */
+ * 0 too if tension takes all that the concrete bears and neither fibres nor stirrups bear anything. Writes nothing. */
 fw_amount fw_shear(const uint8_t *record, size_t len);
 
 #ifdef __cplusplus

@@ -6,17 +6,28 @@
 
 static int checks_passed, checks_failed;
 
-/* Counts one check; a failed one is named with its line. */
-#define CHECK(what) check((what), #what, __FILE__, __LINE__)
+/* Counts one check, once however often a loop comes by; one that fails is named with its line. */
+#define CHECK(what) \
+    do { \
+        static int seen; \
+        check((what), &seen, #what, __FILE__, __LINE__); \
+    } while (0)
 
-static inline void check(int holds, const char *what, const char *file, int line)
+enum { PASSED = 1, FAILED };
+
+static inline void check(int holds, int *seen, const char *what, const char *file, int line)
 {
-    if (holds) {
+    if (!holds)
+        printf("%s:%d: failed: %s\n", file, line, what);
+    if (*seen == 0) {
         checks_passed++;
-        return;
+        *seen = PASSED;
     }
-    checks_failed++;
-    printf("%s:%d: failed: %s\n", file, line, what);
+    if (!holds && *seen == PASSED) {
+        checks_passed--;
+        checks_failed++;
+        *seen = FAILED;
+    }
 }
 
 /* Prints the verdict; what main returns. */

@@ -9,25 +9,38 @@
  *   's'  fw_shear: the same without x
  *   'l'  fw_depths: len and a record likewise; words, 16 bits; the row before the call and the row after it, 64 bits a word; refusal and
  *        count, 32 bits each
+ *   'b'  fw_book: len, 32 bits; a book of len bytes; refusal, count, 32 bits each
+ *   'r'  fw_record, of the book of the last 'b': number; refusal, at, len, 32 bits each
  *
- * Numbers are little-endian. */
-#define _DEFAULT_SOURCE /* for MAP_ANONYMOUS */
+ * Numbers are little-endian. Nor is a case held where the record or the book is no longer as it was lent. */
+#define _DEFAULT_SOURCE /* for edge.h */
 
 #include "fordwhistle.h"
 
 #include <inttypes.h>
 #include <stdio.h>
-#include <sys/mman.h>
+#include <string.h>
 
 #include "bits.h"
+#include "edge.h"
 
-/* What a length of 16 bits counts at most, in whole pages of any usual size; and the words before a row that are looked at too. */
-enum { ROOM = 65536, BEFORE = 64 };
+/* What a length of 16 bits counts at most, in whole pages of any usual size; the same for a book, which may also be too long; and the
+ * words before a row that are looked at too. */
+enum { ROOM = 65536, BOOK_ROOM = 2 * ROOM, BEFORE = 64 };
 
-/* Records and rows are put where they end here, and no byte from here on can be read or written: the library is not compiled with the
- * sanitizers, so they would not see it go past an end. */
-static uint8_t *edge;
+/* Bytes that are lent. They and rows are put where they end at an edge, and no byte from there on can be read or written. A copy says what
+ * they were. */
+typedef struct {
+    uint8_t *edge;
+    size_t len;
+    uint8_t as_lent[BOOK_ROOM];
+} lent;
+
+static lent record_lent, book_lent;
 static int64_t *row_edge;
+
+/* Which of the two the case's function is called on, or null. */
+static const lent *in_hand;
 
 /* What the words up to row_edge should hold after the call. */
 static int64_t row_after[BEFORE + ROOM];
@@ -36,15 +49,6 @@ static unsigned long held, not_held;
 
 /* Set where a case can't be read, nor what follows it. */
 static int broken;
-
-/* The end of so much room, whole pages, or null. */
-static void *edge_of(size_t room)
-{
-    uint8_t *start = mmap(NULL, room + ROOM, PROT_READ | PROT_WRITE, MAP_PRIVATE | MAP_ANONYMOUS, -1, 0);
-    if (start == MAP_FAILED || mprotect(start + room, ROOM, PROT_NONE) != 0)
-        return NULL;
-    return start + room;
-}
 
 /* The next number of the given bytes. */
 static uint64_t number(int bytes)
@@ -61,12 +65,21 @@ static uint64_t number(int bytes)
     return n;
 }
 
-/* The next bytes, up to the edge. */
-static const uint8_t *part(size_t len)
+/* Takes what is lent in hand; its start. */
+static const uint8_t *take(const lent *part)
 {
-    if (fread(edge - len, 1, len, stdin) != len)
+    in_hand = part;
+    return part->edge - part->len;
+}
+
+/* The next bytes, up to their edge, taken in hand. */
+static const uint8_t *lend(lent *part, size_t len)
+{
+    if (fread(part->as_lent, 1, len, stdin) != len)
         broken = 1;
-    return edge - len;
+    part->len = len;
+    memcpy(part->edge - len, part->as_lent, len);
+    return take(part);
 }
 
 /* Whether a difference gets a line. */
@@ -93,11 +106,12 @@ static int64_t *row_of(size_t words)
     return row;
 }
 
-/* As much of a record as one of 8 layers has. Who writes the cases reads no line before the last of them, so few bytes may wait there. */
-static void print_start(const uint8_t *record, size_t len)
+/* As much of a record as one of 8 layers has, or of a book. Who writes the cases reads no line before the last of them, so few bytes may
+ * wait there. */
+static void print_start(const uint8_t *bytes, size_t len)
 {
     for (size_t i = 0; i < len && i < 56; i++)
-        printf("%02x", record[i]);
+        printf("%02x", bytes[i]);
 }
 
 static int class_held(void)
@@ -116,7 +130,7 @@ static int class_held(void)
 static int draw_held(void)
 {
     size_t len = (size_t)number(2);
-    const uint8_t *record = part(len);
+    const uint8_t *record = lend(&record_lent, len);
     int32_t strain = (int32_t)number(4);
     uint32_t refusal = (uint32_t)number(4);
     uint64_t at = number(8), stress = number(8);
@@ -153,7 +167,7 @@ static int amount_held(fw_amount answer, const char *name, const uint8_t *record
 static int amount_at_held(const char *name, fw_amount (*function)(const uint8_t *, size_t, uint32_t))
 {
     size_t len = (size_t)number(2);
-    const uint8_t *record = part(len);
+    const uint8_t *record = lend(&record_lent, len);
     uint32_t x = (uint32_t)number(4);
     return amount_held(function(record, len, x), name, record, len, &x);
 }
@@ -161,14 +175,14 @@ static int amount_at_held(const char *name, fw_amount (*function)(const uint8_t 
 static int shear_held(void)
 {
     size_t len = (size_t)number(2);
-    const uint8_t *record = part(len);
+    const uint8_t *record = lend(&record_lent, len);
     return amount_held(fw_shear(record, len), "fw_shear", record, len, NULL);
 }
 
 static int depths_held(void)
 {
     size_t len = (size_t)number(2);
-    const uint8_t *record = part(len);
+    const uint8_t *record = lend(&record_lent, len);
     size_t words = (size_t)number(2), at = 0;
     int64_t *row = row_of(words), *from = row - BEFORE;
     uint32_t refusal = (uint32_t)number(4), count = (uint32_t)number(4);
@@ -188,6 +202,43 @@ static int depths_held(void)
     return 0;
 }
 
+static int book_held(void)
+{
+    size_t len = (size_t)number(4);
+    if (len > BOOK_ROOM) {
+        broken = 1;
+        return 0;
+    }
+    const uint8_t *book = lend(&book_lent, len);
+    uint32_t refusal = (uint32_t)number(4), count = (uint32_t)number(4);
+    fw_book_answer answer = fw_book(book, len);
+    if (answer.refusal == refusal && answer.count == count)
+        return 1;
+    if (told()) {
+        printf("fw_book(");
+        print_start(book, len);
+        printf(", %zu) gives %u, %u and not %u, %u\n", len, answer.refusal, answer.count, refusal, count);
+    }
+    return 0;
+}
+
+static int record_held(void)
+{
+    const uint8_t *book = take(&book_lent);
+    uint32_t asked = (uint32_t)number(4);
+    uint32_t refusal = (uint32_t)number(4), at = (uint32_t)number(4), len = (uint32_t)number(4);
+    fw_record_answer answer = fw_record(book, book_lent.len, asked);
+    if (answer.refusal == refusal && answer.at == at && answer.len == len)
+        return 1;
+    if (told()) {
+        printf("fw_record(");
+        print_start(book, book_lent.len);
+        printf(", %zu, %u) gives %u, %u, %u and not %u, %u, %u\n", book_lent.len, asked, answer.refusal, answer.at, answer.len, refusal,
+               at, len);
+    }
+    return 0;
+}
+
 static int case_held(int function)
 {
     switch (function) {
@@ -197,22 +248,36 @@ static int case_held(int function)
     case 'm': return amount_at_held("fw_moment", fw_moment);
     case 's': return shear_held();
     case 'l': return depths_held();
+    case 'b': return book_held();
+    case 'r': return record_held();
     }
     printf("no function is '%c'\n", function);
     broken = 1;
     return 0;
 }
 
+/* Whether nothing was written into what is in hand. */
+static int unchanged(int function)
+{
+    if (in_hand == NULL || memcmp(in_hand->edge - in_hand->len, in_hand->as_lent, in_hand->len) == 0)
+        return 1;
+    if (told())
+        printf("the function of '%c' has written into what it was lent\n", function);
+    return 0;
+}
+
 int main(void)
 {
-    edge = edge_of(ROOM);
+    record_lent.edge = edge_of(ROOM);
+    book_lent.edge = edge_of(BOOK_ROOM);
     row_edge = edge_of(sizeof *row_edge * ROOM + ROOM);
-    if (edge == NULL || row_edge == NULL) {
-        puts("no room for a record and a row");
+    if (record_lent.edge == NULL || book_lent.edge == NULL || row_edge == NULL) {
+        puts("no room for a record, a book and a row");
         return 1;
     }
     for (int function; !broken && (function = getchar()) != EOF;) {
-        if (case_held(function) && !broken)
+        in_hand = NULL;
+        if (case_held(function) && unchanged(function) && !broken)
             held++;
         else
             not_held++;

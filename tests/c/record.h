@@ -23,10 +23,16 @@ typedef struct {
     uint8_t bytes[24 + 4 * LAYERS + 1];
 } record;
 
-static inline void append(record *r, int bytes, uint32_t number)
+static inline void put(uint8_t *at, size_t bytes, uint32_t number)
 {
-    for (int i = 0; i < bytes; i++)
-        r->bytes[r->len++] = (uint8_t)(number >> (8 * i));
+    for (size_t i = 0; i < bytes; i++)
+        at[i] = (uint8_t)(number >> (8 * i));
+}
+
+static inline void append(record *r, size_t bytes, uint32_t number)
+{
+    put(r->bytes + r->len, bytes, number);
+    r->len += bytes;
 }
 
 static inline record record_of(section s)

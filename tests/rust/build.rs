@@ -1,8 +1,7 @@
 //! Says where the static library is, for the tests that link it.
 fn main() {
+    let folder = concat!(env!("CARGO_MANIFEST_DIR"), "/../../target/staticlib");
     println!("cargo:rerun-if-changed=build.rs");
-    println!(
-        "cargo:rustc-link-search=native={}/../../target/staticlib",
-        env!("CARGO_MANIFEST_DIR")
-    );
+    println!("cargo:rerun-if-changed={folder}/libpanel.a");
+    println!("cargo:rustc-link-search=native={folder}");
 }

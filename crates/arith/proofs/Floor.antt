@@ -38,7 +38,7 @@ floor-most (negsuc a) d = omega (arith, NatL.div-le-self a d)
 
 -- ---- by the machine's division
 -- -1 - n has the bits of n turned over
-flip-neg : (a : ℕ) → negsuc 0 -ℤ negsuc a ≡ pos a
+pub flip-neg : (a : ℕ) → negsuc 0 -ℤ negsuc a ≡ pos a
 flip-neg a = same _ _ (omega (arith, parts-minus (negsuc 0) (negsuc a)))
 
 flip-pos : (a : ℕ) → negsuc 0 -ℤ pos a ≡ negsuc a

@@ -5,6 +5,7 @@ use mathlib.Core.Bool.{Bool, true, false, _&&_, _||_, true≢false, false≢true
 use mathlib.Core.Logic.{⊎-elim}
 use native.Mathlib.Nat.{eq-or-lt-of-le}
 use native.Mathlib.Omega.{arith}
+use Rattle.arith.specs.Below.{allBelow}
 
 pub both : (a b : Bool) → a && b ≡ true → (a ≡ true) × (b ≡ true)
 both true b e = (refl, e)
@@ -14,14 +15,14 @@ pub neither : (a b : Bool) → a || b ≡ false → (a ≡ false) × (b ≡ fals
 neither false b e = (refl, e)
 neither true b e = absurd (true≢false e)
 
--- p holds of 0 .. n - 1
-unfoldable pub allBelow : ℕ → (ℕ → Bool) → Bool
-allBelow zero p = true
-allBelow (suc n) p = allBelow n p && p n
-
 pub all-below : (n : ℕ) (p : ℕ → Bool) → allBelow n p ≡ true → (i : ℕ) → i < n → p i ≡ true
 unfolding allBelow
 all-below zero p e i h = absurd (omega arith)
 all-below (suc n) p e i h =
     let k = both (allBelow n p) (p n) e in
     ⊎-elim (λ j. rw j (k .1)) (λ j. all-below n p (k .0) i j) (eq-or-lt-of-le {n = i} {m = n} (omega arith))
+
+pub below-all : (n : ℕ) (p : ℕ → Bool) → ((i : ℕ) → i < n → p i ≡ true) → allBelow n p ≡ true
+unfolding allBelow
+below-all zero p h = refl
+below-all (suc n) p h = rw (below-all n p (λ i l. h i (omega arith)), h n (omega arith))

@@ -1,4 +1,5 @@
 pub mod Answers
+pub mod Below
 pub mod Floats
 pub mod Sums
 pub mod Floor

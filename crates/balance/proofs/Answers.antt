@@ -7,8 +7,7 @@ use native.Mathlib.Nat.{pos-of-ne-zero}
 use lib.Dec.{ltb, leb}
 use lib.IntN.{ℤ}
 use lib.ListN.{length, drop}
-use borrow.Author.Tests.{lt-ltb, lt-leb, le-leb, leb-true}
-use Rattle.arith.proofs.Tests.{both}
+use borrow.Author.Tests.{lt-ltb, lt-leb, le-leb}
 use Rattle.section.specs.declared.Section.{Section}
 use Rattle.section.specs.Refusal.{within}
 use Rattle.law.specs.declared.LawAnswer.{LawAnswer}
@@ -17,9 +16,6 @@ use Rattle.law.proofs.Answers.{number, some-refusal, no-refusal}
 use Rattle.balance.specs.declared.Listing.{Listing}
 use Rattle.balance.specs.Depths.{lastDepth, listed, words}
 use Rattle.balance.specs.Answers.{gridRefusal, answered, noAmount, amountAnswer, listRefusal, unlisted, listAnswer, rowAfter}
-
-pub on-grid : (s : Section) (x : ℕ) → within 1 (lastDepth s) x ≡ true → (1 ≤ x) × (x ≤ lastDepth s)
-on-grid s x e = let k = both (leb 1 x) (leb x (lastDepth s)) e in (leb-true 1 x (k .0), leb-true x (lastDepth s) (k .1))
 
 module _ (s : Section) (a : LawAnswer) (is : a ≡ lawAnswer s) where
   -- ---- an amount at a depth

@@ -10,7 +10,7 @@ use native.Mathlib.Numerals.{add-one}
 use native.Mathlib.Omega.{arith}
 use lib.Dec.{eqb}
 use lib.IntN.{ℤ, pos}
-use lib.ListN.{length, length-append}
+use lib.ListN.{length, getD, length-append}
 use borrow.Author.Tests.{eqb-false, eq-eqb, ne-eqb}
 use Rattle.balance.specs.Depths.{Entry, entryAt, listTo, words, Rising}
 
@@ -89,6 +89,19 @@ module _ (k : ℕ → ℕ) (m : ℕ → ℤ) where
       ⊎-elim (λ e. rw e (omega arith)) (λ i. omega (arith, count-grows x n (omega arith), length-append (listTo k m n) (entryAt k m (suc n))))
       (NatL.eq-or-lt-of-le h)
 
+  -- no list is longer than the grid
+  entry-most : (x : ℕ) → length (entryAt k m x) ≤ 1
+  entry-most x = pick (eqb (k x) 0)
+    where
+      pick : (t : Bool) → length (cond t [] (entry x ∷ [])) ≤ 1
+      pick true = omega arith
+      pick false = omega arith
+
+  pub count-most : (n : ℕ) → length (listTo k m n) ≤ n
+  unfolding listTo
+  count-most zero = omega arith
+  count-most (suc n) = omega (arith, count-most n, entry-most (suc n), length-append (listTo k m n) (entryAt k m (suc n)))
+
 -- ---- its words
 words-append : (a b : List Entry) → words (a ++ b) ≡ words a ++ words b
 unfolding words
@@ -105,3 +118,20 @@ pub words-more :
     → (k (x + 1) ≡ 0 → ⊥) → words (listTo k m (x + 1)) ≡ words (listTo k m x) ++ pos (x + 1) ∷ pos (k (x + 1)) ∷ m (x + 1) ∷ []
 unfolding words
 words-more k m x h = rw (list-more k m x h) (words-append (listTo k m x) (entry k m (x + 1) ∷ []))
+
+-- read back from a row, whatever stands after them
+abbrev pub wordsOf : Entry → List ℤ
+wordsOf e = pos (e .depth) ∷ pos (e .kind) ∷ e .moment ∷ []
+
+pub word-of :
+    (es : List Entry) (rest : List ℤ) (none : Entry) (j r : ℕ)
+    → j < length es → r < 3 → getD (words es ++ rest) (3 * j + r) (pos 0) ≡ getD (wordsOf (getD es j none)) r (pos 0)
+unfolding words
+word-of [] rest none j r h l = absurd (omega arith)
+word-of (e ∷ es) rest none zero zero h l = refl
+word-of (e ∷ es) rest none zero (suc zero) h l = refl
+word-of (e ∷ es) rest none zero (suc (suc zero)) h l = refl
+word-of (e ∷ es) rest none zero (suc (suc (suc r))) h l = absurd (omega arith)
+word-of (e ∷ es) rest none (suc j) r h l =
+    let i : 3 * suc j + r ≡ suc (suc (suc (3 * j + r))) = omega arith in
+    rw i (word-of es rest none j r (omega arith) l)

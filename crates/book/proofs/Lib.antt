@@ -1,2 +1,4 @@
 pub mod Places
 pub mod Answers
+pub mod Good
+pub mod Parts

@@ -1,1 +1,4 @@
 pub mod Record
+pub mod Book
+pub mod Good
+pub mod Code

@@ -71,6 +71,10 @@ noSection = record {
   layers = replicate 8 noLayer;
 }
 
+-- of a record that is handed over as bytes: 6 first, then what is answered of its section
+abbrev pub ofRecord : {X : Type 0} → List ℕ → (Section → X) → (ℕ → X) → X
+ofRecord r answered refused = unlessRefused (recordRefusal r) (answered (sectionIn r)) refused
+
 abbrev pub answered : Section → SectionAnswer
 answered section = record { refusal = 0; section = section }
 
@@ -78,4 +82,4 @@ abbrev pub refused : ℕ → SectionAnswer
 refused number = record { refusal = number; section = noSection }
 
 unfoldable pub sectionAnswer : List ℕ → SectionAnswer
-sectionAnswer r = unlessRefused (recordRefusal r) (answered (sectionIn r)) refused
+sectionAnswer r = ofRecord r answered refused

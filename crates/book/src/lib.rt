@@ -1,51 +1,36 @@
-// The section book (document 01): a section out of one record.
+// The section book (document 01): its checks, a record as a part of it, and a section out of one record.
+mod number;
+
 ghost use mathlib.Core.Path.{_≡_};
-ghost use Prim.Native.Nat.{_<_};
-ghost use lib.ListN.{getD};
-ghost use Rattle.book.specs.Record.{le16At, le32At, signed32, recordRight, layerIn, layersIn, sectionIn, noSection, sectionAnswer};
+ghost use Prim.Native.Nat.{_+_, _≤_, _<_, _^_};
+ghost use lib.ListN.{length};
+ghost use Rattle.arith.specs.Below.{allBelow};
+ghost use Rattle.book.specs.Code.{Sized};
+ghost use Rattle.book.specs.Book.{indexOf, countOf, startOf, layersAt, lengthRight, lettersRight, indexRight, endsRight, recordsRight, bookRefusal, bookAnswer, askedRefusal, recordAnswer, recordOf};
+ghost use Rattle.book.specs.Record.{recordRight, layerIn, layersIn, sectionIn, noSection, sectionAnswer};
+use number::byte;
+use number::le16;
+use number::le32;
+use number::signed;
 use section::Layer;
 use section::Section;
+
+#[repr(C)]
+pub struct BookAnswer {
+    pub refusal: u32,
+    pub count: u32,
+}
+
+#[repr(C)]
+pub struct RecordAnswer {
+    pub refusal: u32,
+    pub at: u32,
+    pub len: u32,
+}
 
 pub struct SectionAnswer {
     pub refusal: u32,
     pub section: Section,
-}
-
-// 0 past the end, so that a number can be read at any place of any part.
-fn byte(bytes: &[u8], at: usize) -> u16
-    ensures { λ r. ⌜ (r ≡ getD (now (bytes .entry)) at 0) × (r < 256) ⌝ }
-{
-    if at < bytes.len() {
-        bytes[at] as u16
-    } else {
-        0
-    }
-}
-
-// Every place in a book is below 65,536.
-fn le16(bytes: &[u8], at: usize) -> u16
-    requires { ⌜ at < 65536 ⌝ }
-    ensures { λ r. ⌜ r ≡ le16At (now (bytes .entry)) at ⌝ }
-{
-    byte(bytes, at) + 256 * byte(bytes, at + 1)
-}
-
-fn le32(bytes: &[u8], at: usize) -> u32
-    requires { ⌜ at < 65534 ⌝ }
-    ensures { λ r. ⌜ r ≡ le32At (now (bytes .entry)) at ⌝ }
-{
-    le16(bytes, at) as u32 + 65536 * (le16(bytes, at + 2) as u32)
-}
-
-fn signed(n: u32) -> i32
-    ensures { λ r. ⌜ r ≡ signed32 n ⌝ }
-{
-    if n < 2147483648 {
-        n as i32
-    } else {
-        // In 64 bits, since 32 do not hold 2^32.
-        (n as i64 - 4294967296) as i32
-    }
 }
 
 fn record_right(part: &[u8]) -> bool
@@ -131,4 +116,176 @@ pub fn section_of(part: &[u8]) -> SectionAnswer
         refusal: 0,
         section: section_in(part),
     }
+}
+
+fn length_right(book: &[u8]) -> bool
+    ensures { λ r. ⌜ r ≡ lengthRight (now (book .entry)) ⌝ }
+{
+    let len = book.len();
+    if (16 <= len) & (len <= 65536) {
+        return le32(book, len - 8) as usize == len;
+    }
+    false
+}
+
+fn letters_right(book: &[u8]) -> bool
+    requires { ⌜ 16 ≤ length (now book) ⌝ }
+    ensures { λ r. ⌜ r ≡ lettersRight (now (book .entry)) ⌝ }
+{
+    let len = book.len();
+    (byte(book, len - 4) == 66)
+        & (byte(book, len - 3) == 79)
+        & (byte(book, len - 2) == 79)
+        & (byte(book, len - 1) == 75)
+}
+
+fn index_of(book: &[u8]) -> u32
+    requires { ⌜ Sized (now book) ⌝ }
+    ensures { λ r. ⌜ r ≡ indexOf (now (book .entry)) ⌝ }
+{
+    le32(book, book.len() - 16)
+}
+
+fn count_of(book: &[u8]) -> u32
+    requires { ⌜ Sized (now book) ⌝ }
+    ensures { λ r. ⌜ r ≡ countOf (now (book .entry)) ⌝ }
+{
+    le32(book, book.len() - 12)
+}
+
+// In 64 bits: the three numbers may be any of 32.
+fn index_right(book: &[u8]) -> bool
+    requires { ⌜ Sized (now book) ⌝ }
+    ensures { λ r. ⌜ r ≡ indexRight (now (book .entry)) ⌝ }
+{
+    let index = index_of(book) as usize;
+    let n = count_of(book) as usize;
+    index + 4 * n + 16 == book.len()
+}
+
+fn start_of(book: &[u8], i: u32) -> u32
+    requires { ⌜ Sized (now book) ⌝ }
+    ensures { λ r. ⌜ r ≡ startOf (now (book .entry)) i ⌝ }
+{
+    let index = index_of(book);
+    if i < count_of(book) {
+        return le32(book, index as usize + 4 * (i as usize));
+    }
+    index
+}
+
+fn layers_at(book: &[u8], i: u32) -> u32
+    requires { ⌜ Sized (now book) ⌝ }
+    ensures { λ r. ⌜ (r ≡ layersAt (now (book .entry)) i) × (r < 65536) ⌝ }
+{
+    let start = start_of(book, i) as usize;
+    le16(book, start + 20) as u32
+}
+
+fn ends_right(book: &[u8], i: u32) -> bool
+    requires { ⌜ Sized (now book) × (i + 1 < 2 ^ 32) ⌝ }
+    ensures { λ r. ⌜ r ≡ endsRight (now (book .entry)) i ⌝ }
+{
+    let m = layers_at(book, i) as u64;
+    let end = start_of(book, i) as u64 + (24 + 4 * m);
+    (m <= 8) & (end <= index_of(book) as u64) & (end == start_of(book, i + 1) as u64)
+}
+
+// Each record, also after one that is wrong: a book so small is soon looked through.
+fn all_end_right(book: &[u8]) -> bool
+    requires { ⌜ Sized (now book) ⌝ }
+    ensures { λ r. ⌜ r ≡ allBelow (countOf (now (book .entry))) (endsRight (now (book .entry))) ⌝ }
+{
+    let n = count_of(book);
+    let mut right = true;
+    let mut i: u32 = 0;
+    while i < n {
+        right = right & ends_right(book, i);
+        i += 1;
+    }
+    right
+}
+
+fn records_right(book: &[u8]) -> bool
+    requires { ⌜ Sized (now book) ⌝ }
+    ensures { λ r. ⌜ r ≡ recordsRight (now (book .entry)) ⌝ }
+{
+    (start_of(book, 0) == 0) & all_end_right(book)
+}
+
+fn book_refusal(book: &[u8]) -> u32
+    ensures { λ r. ⌜ r ≡ bookRefusal (now (book .entry)) ⌝ }
+{
+    if !length_right(book) {
+        return 1;
+    }
+    let lettered = letters_right(book);
+    let indexed = index_right(book);
+    if !lettered {
+        return 2;
+    }
+    if !indexed {
+        return 3;
+    }
+    // Not before 3 is tested: n may be 2^32 - 1.
+    if !records_right(book) {
+        return 4;
+    }
+    0
+}
+
+// The number of records of a book; or 1 to 4, and zero.
+pub fn book(bytes: &[u8]) -> BookAnswer
+    ensures { λ r. ⌜ r ≡ bookAnswer (now (bytes .entry)) ⌝ }
+{
+    let refusal = book_refusal(bytes);
+    if refusal != 0 {
+        return BookAnswer {
+            refusal: refusal,
+            count: 0,
+        };
+    }
+    BookAnswer {
+        refusal: 0,
+        count: count_of(bytes),
+    }
+}
+
+fn asked_refusal(bytes: &[u8], number: u32) -> u32
+    ensures { λ r. ⌜ r ≡ askedRefusal (now (bytes .entry)) number ⌝ }
+{
+    let answer = book(bytes);
+    if answer.refusal != 0 {
+        return answer.refusal;
+    }
+    if number < answer.count { 0 } else { 5 }
+}
+
+// Where a record of a book is, and its bytes; or 1 to 5, and zeros.
+pub fn record_place(bytes: &[u8], number: u32) -> RecordAnswer
+    ensures { λ r. ⌜ r ≡ recordAnswer (now (bytes .entry)) number ⌝ }
+{
+    let refusal = asked_refusal(bytes, number);
+    if refusal != 0 {
+        return RecordAnswer {
+            refusal: refusal,
+            at: 0,
+            len: 0,
+        };
+    }
+    RecordAnswer {
+        refusal: 0,
+        at: start_of(bytes, number),
+        len: 24 + 4 * layers_at(bytes, number),
+    }
+}
+
+// That part of the caller's book; where it is refused, the empty part.
+pub fn record(bytes: &[u8], number: u32) -> &[u8]
+    ensures { λ r. ⌜ now r ≡ recordOf (now (bytes .entry)) number ⌝ }
+{
+    let place = record_place(bytes, number);
+    let at = place.at as usize;
+    let end = at + place.len as usize;
+    &bytes[at..end]
 }

@@ -10,7 +10,8 @@ use lib.Dec.{leb}
 use lib.ListN.{drop, getD}
 use lib.Seq.{drop-cons}
 use borrow.Author.Tests.{leb-true, le-leb, lt-leb}
-use Rattle.arith.proofs.Tests.{allBelow, all-below}
+use Rattle.arith.specs.Below.{allBelow}
+use Rattle.arith.proofs.Tests.{all-below}
 use Rattle.class.specs.Class.{ladder, largest, stepOf}
 
 -- the table's rule: no rung is above the next

@@ -38,10 +38,20 @@ use Rattle.balance.proofs.depths.Kinds as Depths
 use Rattle.balance.proofs.depths.Reads as DepthsReads
 use Rattle.shear.proofs.shear.Kinds as Shear
 use Rattle.shear.proofs.shear.Reads as ShearReads
+use Rattle.book.proofs.book.Kinds as Book
+use Rattle.book.proofs.book.Reads as BookReads
+use Rattle.book.proofs.record_place.Kinds as RecordPlace
+use Rattle.book.proofs.record_place.Reads as RecordPlaceReads
+use Rattle.book.proofs.record.Kinds as Record
+use Rattle.book.proofs.record.Reads as RecordReads
 use Rattle.book.proofs.section_of.Kinds as SectionOf
 use Rattle.book.proofs.section_of.Reads as SectionOfReads
 use Rattle.class.proofs.class.Kinds as Class
 use Rattle.class.proofs.class.Reads as ClassReads
+use Rattle.panel.proofs.fw_book.Kinds as FwBook
+use Rattle.panel.proofs.fw_book.Reads as FwBookReads
+use Rattle.panel.proofs.fw_record.Kinds as FwRecord
+use Rattle.panel.proofs.fw_record.Reads as FwRecordReads
 use Rattle.panel.proofs.fw_class.Kinds as FwClass
 use Rattle.panel.proofs.fw_class.Reads as FwClassReads
 use Rattle.panel.proofs.fw_draw.Kinds as FwDraw
@@ -54,7 +64,7 @@ use Rattle.panel.proofs.fw_depths.Kinds as FwDepths
 use Rattle.panel.proofs.fw_depths.Reads as FwDepthsReads
 use Rattle.panel.proofs.fw_shear.Kinds as FwShear
 use Rattle.panel.proofs.fw_shear.Reads as FwShearReads
-use Rattle.demands.specs.Decided.{Decided, RowDecided}
+use Rattle.demands.specs.Decided.{Decided, RowDecided, PartDecided}
 
 pub refusal-decided : Decided Refusal.ps Refusal.r RefusalReads.Learnt
 refusal-decided κs a x y e f p q = p ∙ sym q
@@ -116,11 +126,26 @@ depths-row-decided κs a x y e f p q = p .1 ∙ sym (q .1)
 pub shear-decided : Decided Shear.ps Shear.r ShearReads.Learnt
 shear-decided κs a x y e f p q = p ∙ sym q
 
+pub book-decided : Decided Book.ps Book.r BookReads.Learnt
+book-decided κs a x y e f p q = p ∙ sym q
+
+pub record-place-decided : Decided RecordPlace.ps RecordPlace.r RecordPlaceReads.Learnt
+record-place-decided κs a x y e f p q = p ∙ sym q
+
+pub record-decided : PartDecided Record.ps Record.r RecordReads.Learnt (λ κs x. x .now)
+record-decided κs a x y e f p q = p ∙ sym q
+
 pub section-of-decided : Decided SectionOf.ps SectionOf.r SectionOfReads.Learnt
 section-of-decided κs a x y e f p q = p ∙ sym q
 
 pub class-decided : Decided Class.ps Class.r ClassReads.Learnt
 class-decided κs a x y e f p q = p ∙ sym q
+
+pub fw-book-decided : Decided FwBook.ps FwBook.r FwBookReads.Learnt
+fw-book-decided κs a x y e f p q = p ∙ sym q
+
+pub fw-record-decided : Decided FwRecord.ps FwRecord.r FwRecordReads.Learnt
+fw-record-decided κs a x y e f p q = p ∙ sym q
 
 pub fw-class-decided : Decided FwClass.ps FwClass.r FwClassReads.Learnt
 fw-class-decided κs a x y e f p q = p ∙ sym q

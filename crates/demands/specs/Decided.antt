@@ -17,3 +17,8 @@ Decided {n} ps r told =
 abbrev pub RowDecided : {n : ℕ} (ps : List (PK n)) (r : RK n) → Out n ps r → ((κs : Lfts n) → AtExit (endedOf n ps r) κs → List ℤ) → Type 0
 RowDecided {n} ps r told row =
     (κs : Lfts n) (a : Dens κs ps) (x y : resT r κs .Denot) (e f : AtExit (endedOf n ps r) κs) → told κs a x e → told κs a y f → row κs e ≡ row κs f
+
+-- and so is the part of what was lent that is handed back, byte for byte
+abbrev pub PartDecided : {n : ℕ} (ps : List (PK n)) (r : RK n) → Out n ps r → ((κs : Lfts n) → resT r κs .Denot → List ℕ) → Type 0
+PartDecided {n} ps r told part =
+    (κs : Lfts n) (a : Dens κs ps) (x y : resT r κs .Denot) (e f : AtExit (endedOf n ps r) κs) → told κs a x e → told κs a y f → part κs x ≡ part κs y

@@ -8,7 +8,8 @@ use native.Mathlib.Omega.{arith}
 use lib.Dec.{leb, eqb, eqb·suc-zero}
 use lib.ListN.{getD}
 use borrow.Author.Tests.{leb-true}
-use Rattle.arith.proofs.Tests.{both, allBelow, all-below}
+use Rattle.arith.specs.Below.{allBelow}
+use Rattle.arith.proofs.Tests.{both, all-below}
 use Rattle.section.specs.declared.Section.{Section}
 use Rattle.section.specs.Section.{layerAt}
 use Rattle.section.specs.Accepted.{Accepted}

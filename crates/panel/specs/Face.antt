@@ -2,18 +2,13 @@
 use Prim.Native.Nat.{ℕ}
 use mathlib.Core.List.{List}
 use lib.IntN.{ℤ}
-use Rattle.arith.specs.Answers.{unlessRefused}
-use Rattle.section.specs.declared.Section.{Section}
 use Rattle.drawn.specs.declared.Drawn.{Drawn}
 use Rattle.drawn.specs.Drawn.{refused, drawnAnswer}
 use Rattle.balance.specs.declared.Amount.{Amount}
 use Rattle.balance.specs.declared.Listing.{Listing}
 use Rattle.balance.specs.Answers.{noAmount, imbalanceAnswer, momentAnswer, unlisted, listAnswer, rowAfter}
 use Rattle.shear.specs.Shear.{shearAnswer}
-use Rattle.book.specs.Record.{recordRefusal, sectionIn}
-
-abbrev pub ofRecord : {X : Type 0} → List ℕ → (Section → X) → (ℕ → X) → X
-ofRecord r answered refused = unlessRefused (recordRefusal r) (answered (sectionIn r)) refused
+use Rattle.book.specs.Record.{ofRecord}
 
 unfoldable pub drawnOf : List ℕ → ℤ → Drawn
 drawnOf r e = ofRecord r (λ s. drawnAnswer s e) refused

@@ -2,11 +2,30 @@
 ghost use mathlib.Core.Path.{_≡_};
 ghost use Rattle.class.specs.Class.{classAnswer};
 ghost use lib.ListN.{length};
+ghost use Rattle.book.specs.Book.{bookAnswer, recordAnswer};
 ghost use Rattle.panel.specs.Face.{drawnOf, imbalanceOf, momentOf, listOf, rowOf, shearOf};
 use balance::Amount;
 use balance::Listing;
+use book::BookAnswer;
+use book::RecordAnswer;
 use class::ClassAnswer;
 use drawn::Drawn;
+
+// The number of records of a book; or 1 to 4, and zero.
+#[no_mangle]
+pub extern "C" fn fw_book(bytes: &[u8]) -> BookAnswer
+    ensures { λ r. ⌜ r ≡ bookAnswer (now (bytes .entry)) ⌝ }
+{
+    book::book(bytes)
+}
+
+// Where a record of a book is, and its bytes; or 1 to 5, and zeros.
+#[no_mangle]
+pub extern "C" fn fw_record(bytes: &[u8], number: u32) -> RecordAnswer
+    ensures { λ r. ⌜ r ≡ recordAnswer (now (bytes .entry)) number ⌝ }
+{
+    book::record_place(bytes, number)
+}
 
 // The class of a fibre concrete; or 17 and zeros.
 #[no_mangle]

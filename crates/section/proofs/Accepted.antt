@@ -1,5 +1,5 @@
 -- A section is accepted exactly where 7 to 13 pass. Assumes nothing.
-use Prim.Native.Nat.{ℕ, zero, suc, _*_, _-_, _%_, _≤_, _<_}
+use Prim.Native.Nat.{ℕ, zero, suc, _*_, _-_, _%_, _<_}
 use mathlib.Core.Path.{_≡_, refl}
 use mathlib.Core.Bool.{Bool, true, _&&_, _||_}
 use mathlib.Core.Logic.{_↔_}
@@ -14,12 +14,7 @@ use Rattle.section.specs.Refusal.{within, inTable, midRight, sectionRefu
 use Rattle.section.specs.Accepted.{Accepted}
 use Rattle.section.proofs.Layers.{few, rising}
 use Rattle.section.proofs.Rising.{each, above-next, rises}
-use Rattle.section.proofs.Lines.{passed}
-
-from-to : (low high n : ℕ) → within low high n ≡ true → (low ≤ n) × (n ≤ high)
-from-to low high n e =
-    let k = both (leb low n) (leb n high) e in
-    (leb-true low n (k .0), leb-true n high (k .1))
+use Rattle.section.proofs.Lines.{passed, from-to}
 
 -- a test that is asked only of a number that is not 0
 unless-zero : (n : ℕ) (t : Bool) → eqb n 0 || t ≡ true → 0 < n → t ≡ true

@@ -1,24 +1,34 @@
 -- Lines of the table of refusals: what one that is passed tells. Assumes nothing.
-use Prim.Native.Nat.{ℕ, zero, suc, _<_}
+use Prim.Native.Nat.{ℕ, zero, suc, _≤_, _<_}
 use mathlib.Core.Path.{_≡_, refl}
 use mathlib.Core.Bool.{Bool, true, false, not}
 use native.Mathlib.Nat.{suc-ne-zero}
 use native.Mathlib.Omega.{arith}
-use lib.Dec.{ltb, eqb·suc-zero}
-use borrow.Author.Tests.{ltb-true, not-true}
+use lib.Dec.{ltb, leb, eqb·suc-zero}
+use borrow.Author.Tests.{ltb-true, leb-true, not-true}
+use Rattle.arith.proofs.Tests.{both}
 use Rattle.section.specs.declared.Layer.{Layer}
 use Rattle.section.specs.declared.Section.{Section}
 use Rattle.section.specs.Section.{layersOf, inRange, layersRight}
-use Rattle.section.specs.Refusal.{line, firstOf}
+use Rattle.section.specs.Refusal.{line, firstOf, within}
 use Rattle.section.specs.Added.{taken, layerRefusal}
 
 pub passed : (t : Bool) (k below : ℕ) → line t (suc k) below ≡ 0 → (t ≡ true) × (below ≡ 0)
 passed true k below e = (refl, e)
 passed false k below e = absurd (omega arith)
 
+pub from-to : (low high n : ℕ) → within low high n ≡ true → (low ≤ n) × (n ≤ high)
+from-to low high n e =
+    let k = both (leb low n) (leb n high) e in
+    (leb-true low n (k .0), leb-true n high (k .1))
+
 pub none-of : (r next : ℕ) → firstOf r next ≡ 0 → (r ≡ 0) × (next ≡ 0)
 none-of zero next e = (refl, e)
 none-of (suc r) next e = absurd (suc-ne-zero r (rw eqb·suc-zero at e))
+
+pub same-after : (r a b : ℕ) → (r ≡ 0 → a ≡ b) → firstOf r a ≡ firstOf r b
+same-after zero a b h = h refl
+same-after (suc r) a b h = rw eqb·suc-zero
 
 pub same : (t : Bool) (k : ℕ) → line t k k ≡ k
 same true k = refl

@@ -1,6 +1,6 @@
 //! Cases for `tests/c/held.c`, the program that calls the C face and compares. It is a process of its own since the static library is
 //! x86-64 code and these tests are code for the machine at hand.
-use crate::rules::{Amount, Class, Drawn, Listed, Sums};
+use crate::rules::{Amount, BookAnswer, Class, Drawn, Listed, RecordAnswer, Sums};
 use std::io::{BufWriter, Write};
 use std::process::{Child, ChildStdin, Command, Stdio};
 
@@ -92,6 +92,26 @@ impl Held {
         }
         case.extend(listed.refusal.to_le_bytes());
         case.extend(listed.count.to_le_bytes());
+        self.case(&case);
+    }
+
+    /// That `fw_book` gives this answer.
+    pub fn book(&mut self, book: &[u8], answer: BookAnswer) {
+        let mut case = vec![b'b'];
+        case.extend((book.len() as u32).to_le_bytes());
+        case.extend(book);
+        for number in [answer.refusal, answer.count] {
+            case.extend(number.to_le_bytes());
+        }
+        self.case(&case);
+    }
+
+    /// That `fw_record` gives this answer, of the last book.
+    pub fn record(&mut self, number: u32, answer: RecordAnswer) {
+        let mut case = vec![b'r'];
+        for number in [number, answer.refusal, answer.at, answer.len] {
+            case.extend(number.to_le_bytes());
+        }
         self.case(&case);
     }
 

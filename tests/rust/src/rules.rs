@@ -1,6 +1,7 @@
 //! Document 01's rules, a file for each chapter. Tables are searched, points interpolated and fractions kept exact where the proved code
 //! compares, branches and divides step by step.
 mod balance;
+mod book;
 mod class;
 mod drawn;
 mod law;
@@ -8,6 +9,7 @@ mod section;
 mod shear;
 
 pub use balance::{amounts, area, exact, list_of, rounded, write, Amount, List, Listed, Sums};
+pub use book::{book, lines, record, Book, BookAnswer, Bound, Lines, RecordAnswer, LINES};
 pub use class::{class, Class, LETTERS, STEPS};
 pub use drawn::{draw, stress_drawn, Drawn, Point};
 pub use law::{Law, TABLE};

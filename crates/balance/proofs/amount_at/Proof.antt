@@ -6,13 +6,14 @@ use native.Mathlib.Omega.{arith}
 use borrow.Author.Tests.{not-true, not-false}
 use borrow.Author.Needs.{needs}
 use Rattle.arith.proofs.Machine.{read}
+use Rattle.section.proofs.Lines.{from-to}
 use Rattle.section.specs.Accepted.{Accepted}
 use Rattle.section.specs.Refusal.{within}
 use Rattle.law.specs.Law.{lawOf}
 use Rattle.law.proofs.Answers.{passes}
 use Rattle.balance.specs.Depths.{lastDepth}
 use Rattle.balance.specs.Answers.{answered}
-use Rattle.balance.proofs.Answers.{on-grid, refuses-section, refuses-depth, answers}
+use Rattle.balance.proofs.Answers.{refuses-section, refuses-depth, answers}
 use Rattle.balance.proofs.amount_at.Statement.{statement}
 use Rattle.balance.proofs.amount_at.Tie as tie
 
@@ -33,7 +34,7 @@ met : (c : tie.Else2)
     Accepted (a .section) × (c .before .before .before .before .of .result .law ≡ lawOf (a .section)) × (1 ≤ a .x) × (a .x ≤ lastDepth (a .section))
 met c =
     let k = passes _ (c .before .before .before .before .of .ensures) (c .before .before .if1 .left) in
-    let r = on-grid (c .before .before .before .before .before .args .section) _ (on c) in
+    let r = from-to 1 (c .before .before .before .before .before .args .section .h) _ (on c) in
     (k .0, k .1, r .0, r .1)
 
 returns-3 : tie.Need-returns-3

@@ -3,7 +3,7 @@ use mathlib.Core.Path.{_≡_, _∙_}
 use borrow.Author.Needs.{needs}
 use Rattle.balance.specs.Answers.{noAmount, momentAnswer}
 use Rattle.panel.specs.Face.{momentOf}
-use Rattle.panel.proofs.Records.{refuses-record, answers-record}
+use Rattle.book.proofs.Answers.{refuses-record, answers-record}
 use Rattle.panel.proofs.fw_moment.Statement.{statement}
 use Rattle.panel.proofs.fw_moment.Tie as tie
 

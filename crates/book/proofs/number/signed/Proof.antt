@@ -9,8 +9,8 @@ use mir.Facts.{toZ-pos, toZ-ofZ}
 use borrow.Author.Tests.{lt-ltb, le-ltb}
 use borrow.Author.Needs.{needs}
 use Rattle.book.specs.Record.{signed32}
-use Rattle.book.proofs.signed.Statement.{statement}
-use Rattle.book.proofs.signed.Tie as tie
+use Rattle.book.proofs.number.signed.Statement.{statement}
+use Rattle.book.proofs.number.signed.Tie as tie
 
 less : (n : ℕ) → n < 2 ^ 32 → toZ w64 n -ℤ pos 4294967296 ≡ negsuc (4294967296 - suc n)
 less n h = rw (toZ-pos w64 {n = n} (omega arith), lt-ltb n 4294967296 h)

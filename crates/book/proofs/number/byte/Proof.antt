@@ -3,8 +3,8 @@ use mathlib.Core.Path.{sym}
 use native.Mathlib.Omega.{arith}
 use lib.ListN.{List·getD-eq-default}
 use borrow.Author.Needs.{needs}
-use Rattle.book.proofs.byte.Statement.{statement}
-use Rattle.book.proofs.byte.Tie as tie
+use Rattle.book.proofs.number.byte.Statement.{statement}
+use Rattle.book.proofs.number.byte.Tie as tie
 
 cast-result : tie.Need-cast-result
 cast-result c = omega (arith, c .shared-slice-known .given (c .before .before .args .at))

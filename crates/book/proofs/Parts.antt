@@ -1,0 +1,65 @@
+-- A record's part of its book: empty exactly where it is refused, and byte for byte what is filed. Assumes nothing.
+use Prim.Native.Nat.{ℕ, _+_, _-_, _≤_, _<_}
+use mathlib.Core.Path.{_≡_, refl, sym, ap}
+use mathlib.Core.List.{List, []}
+use mathlib.Core.Logic.{_↔_}
+use native.Mathlib.Nat.{add-assoc, add-sub-cancel-left}
+use native.Mathlib.Omega.{arith}
+use lib.Dec.{eqb}
+use lib.ListN.{length, getD, take, drop, length-take, length-drop}
+use lib.Seq.{getD-take, getD-drop}
+use borrow.Author.Tests.{eq-eqb, ne-eqb, le-leb}
+use Rattle.arith.proofs.Answers.{of-answer}
+use Rattle.section.specs.Refusal.{line}
+use Rattle.book.specs.declared.RecordAnswer.{RecordAnswer}
+use Rattle.book.specs.Record.{le16At, recordRight, recordRefusal}
+use Rattle.book.specs.Book.{startOf, sizeOf, askedRefusal, noRecord, recordAnswer, partOf, recordOf}
+use Rattle.book.specs.Good.{GoodBook, StandsIn, Shows}
+use Rattle.book.proofs.Good.{good, asked}
+
+module _ (s : List ℕ) (i : ℕ) where
+  module _ (ok : askedRefusal s i ≡ 0) where
+    pub book-good : GoodBook s
+    book-good = good s (asked s i ok .0)
+
+    stands : StandsIn s i
+    stands = book-good .records i (asked s i ok .1)
+
+    part-is : recordOf s i ≡ partOf s (startOf s i) (sizeOf s i)
+    unfolding recordOf
+    part-is = rw ok
+
+    ends-inside : startOf s i + sizeOf s i ≤ length s
+    ends-inside = omega (arith, stands .inside, book-good .index)
+
+    pub part-shows : Shows s i (recordOf s i)
+    part-shows = rw part-is (record { size = simp (length-take, length-drop) (omega (arith, ends-inside)); bytes = λ j h. rw (getD-take, getD-drop) })
+
+    -- a number of the part is the book's, 16 bits from a place of the head on
+    part-le16 : (j : ℕ) → j < 23 → le16At (recordOf s i) j ≡ le16At s (startOf s i + j)
+    part-le16 j h = rw (part-shows .bytes j (omega arith), part-shows .bytes (j + 1) (omega arith), add-assoc (startOf s i) j 1)
+
+    -- 6 then tests nothing but the zero
+    pub part-refusal : recordRefusal (recordOf s i) ≡ line (eqb (le16At s (startOf s i + 22)) 0) 6 0
+    unfolding recordRefusal recordRight
+    part-refusal = rw (part-shows .size, part-le16 20 (omega arith), part-le16 22 (omega arith), eq-eqb (sizeOf s i) _ refl, le-leb _ 8 (stands .few))
+
+  -- ---- the empty part
+  none-refused : (askedRefusal s i ≡ 0 → ⊥) → recordOf s i ≡ []
+  unfolding recordOf
+  none-refused f = rw (ne-eqb _ 0 f)
+
+  pub empty-exactly : (recordOf s i ≡ []) ↔ (askedRefusal s i ≡ 0 → ⊥)
+  empty-exactly = (λ e ok. let n = part-shows ok .size in let z = ap length e in omega arith, none-refused)
+
+  -- ---- the part at the place that is answered
+  module _ {a : RecordAnswer} (is : a ≡ recordAnswer s i) where
+    pub place-inside : a .at + a .len ≤ length s
+    unfolding recordAnswer
+    place-inside = rw is (of-answer (λ (x : RecordAnswer). x .at + x .len ≤ length s) (askedRefusal s i) _ noRecord ends-inside (λ f. omega arith))
+
+    pub place-part : partOf s (a .at) (a .at + a .len - a .at) ≡ recordOf s i
+    unfolding recordAnswer
+    place-part =
+        rw (add-sub-cancel-left (a .at) (a .len), is)
+        (of-answer (λ (x : RecordAnswer). partOf s (x .at) (x .len) ≡ recordOf s i) (askedRefusal s i) _ noRecord (λ ok. sym (part-is ok)) (λ f. sym (none-refused f)))

@@ -1,0 +1,87 @@
+-- The list of depths as the program reads it back: its refusal, its count, its words. Assumes nothing.
+use Prim.Native.Nat.{ℕ, _+_, _*_, _-_, _≤_, _<_}
+use mathlib.Core.Path.{_≡_, refl, sym, ap, _∙_}
+use mathlib.Core.Bool.{true}
+use mathlib.Core.List.{List, _++_}
+use native.Mathlib.Omega.{arith}
+use lib.Dec.{ltb, leb, eqb}
+use lib.IntN.{ℤ, pos}
+use lib.ListN.{length, getD, drop, length-append}
+use borrow.Author.Tests.{ltb-true, le-leb, ne-eqb}
+use Rattle.arith.proofs.Answers.{of-answer}
+use Rattle.section.specs.declared.Section.{Section}
+use Rattle.section.specs.Refusal.{line, sectionRefusal}
+use Rattle.section.proofs.Lines.{passed, none-of, same-after}
+use Rattle.section.proofs.Accepted.{accepted}
+use Rattle.balance.specs.declared.Listing.{Listing}
+use Rattle.balance.specs.Forces.{moment}
+use Rattle.balance.specs.Depths.{lastDepth, kindAt, listed, words}
+use Rattle.balance.specs.Answers.{listRefusal, unlisted, listAnswer, rowAfter}
+use Rattle.balance.proofs.Listed.{count-most, words-length, wordsOf, word-of}
+use Rattle.booklines.specs.Line.{leastTo, entryOf, bendingRefusal, unbent, bendingAnswer}
+use Rattle.booklines.proofs.Least.{least-alike}
+
+-- ---- into a row that holds every list, what is refused is just what the line's bending is refused by
+no-fifteen : (s : Section) (room : ℕ) → 3000 ≤ room → listRefusal s room ≡ bendingRefusal s
+unfolding listRefusal bendingRefusal
+no-fifteen s room h = same-after (sectionRefusal s) _ _ (λ e. rw (le-leb (3 * length (listed s)) room (omega (arith, count-most (kindAt s) (moment s) (lastDepth s), accepted s e .height .1))))
+
+module _ (s : Section) (row : List ℤ) (room : 3000 ≤ length row) {a : Listing} (is : a ≡ listAnswer s (length row)) where
+  number : a .refusal ≡ bendingRefusal s
+  unfolding listAnswer listRefusal
+  number =
+      rw is (of-answer (λ (x : Listing). x .refusal ≡ listRefusal s (length row)) (sectionRefusal s) _ unlisted (λ e. refl) refused)
+      ∙ no-fifteen s (length row) room
+    where
+      refused : (sectionRefusal s ≡ 0 → ⊥) → sectionRefusal s ≡ listRefusal s (length row)
+      refused f = rw (ne-eqb (sectionRefusal s) 0 f)
+
+  pub refuses-bending : (a .refusal ≡ 0 → ⊥) → unbent (a .refusal) ≡ bendingAnswer s
+  unfolding bendingAnswer
+  refuses-bending h = rw (number, ne-eqb (bendingRefusal s) 0 (λ e. h (number ∙ e)))
+
+  module _ (ok : a .refusal ≡ 0) where
+    none : bendingRefusal s ≡ 0
+    none = sym number ∙ ok
+
+    lines : (sectionRefusal s ≡ 0) × (line (ltb 0 (length (listed s))) 14 0 ≡ 0)
+    unfolding bendingRefusal
+    lines = none-of (sectionRefusal s) _ none
+
+    some : 0 < length (listed s)
+    some = ltb-true 0 _ (passed (ltb 0 (length (listed s))) 13 0 (lines .1) .0)
+
+    count : a .count ≡ length (listed s)
+    unfolding listAnswer
+    count = rw (is, lines .0)
+
+    module _ (after : List ℤ) (then : after ≡ rowAfter s row) where
+      written : after ≡ words (listed s) ++ drop (3 * length (listed s)) row
+      unfolding rowAfter
+      written = rw (then, no-fifteen s (length row) room ∙ none)
+
+      pub has-moments : (0 < a .count) × (3 * a .count ≤ length after)
+      has-moments =
+          rw (count, written)
+          (some, omega (arith, length-append (words (listed s)) (drop (3 * length (listed s)) row), words-length (listed s)))
+
+      word : (j r : ℕ) → j < length (listed s) → r < 3 → getD after (3 * j + r) (pos 0) ≡ getD (wordsOf (entryOf (listed s) j)) r (pos 0)
+      word j r h l = rw written (word-of (listed s) _ _ j r h l)
+
+      pub bends :
+          record {
+            refusal = 0;
+            count = a .count;
+            depth = getD after 0 (pos 0);
+            kind = getD after 1 (pos 0);
+            moment = leastTo (λ j. getD after (3 * j + 2) (pos 0)) (a .count - 1);
+          } ≡ bendingAnswer s
+      unfolding bendingAnswer
+      bends =
+          rw (
+            none,
+            count,
+            word 0 0 some (omega arith),
+            word 0 1 some (omega arith),
+            least-alike _ (λ j. entryOf (listed s) j .moment) (length (listed s) - 1) (λ j h. word j 2 (omega (arith, some)) (omega arith)),
+          )

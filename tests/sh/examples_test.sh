@@ -1,0 +1,70 @@
+#!/usr/bin/env bash
+# examples/depths.c on the sample book, on a book with a negative moment, on the longest, and on what is no book.
+set -u
+cd "$(dirname "$0")/../.." || exit 1
+. tests/sh/check.sh
+depths=target/tests/depths
+book=target/tests/book
+expected=target/tests/expected
+
+# numbers BYTES NUMBER..: little-endian.
+numbers() {
+    local bytes=$1 number i byte
+    shift
+    for number; do
+        for ((i = 0; i < bytes; i++)); do
+            printf -v byte '\\x%02x' $((number >> 8 * i & 255))
+            printf '%b' "$byte"
+        done
+    done
+}
+
+# Bars near the compressed face and a load that pulls.
+pulled() {
+    numbers 2 300 300 30 500 0 0
+    numbers 4 -1000000
+    numbers 2 0 0 2 0 30 3700 160 50
+    numbers 4 0 32 1 52
+    printf 'BOOK'
+}
+
+# 2340 records of zeros. Their places are 24 apart.
+longest() {
+    head -c 56160 /dev/zero
+    # shellcheck disable=SC2046
+    numbers 4 $(seq 0 24 56136) 56160 2340 65536
+    printf 'BOOK'
+}
+
+expect() {
+    printf '%s\n' "$@" >"$expected"
+}
+
+says() {
+    grep -qF "$1" target/tests/said
+}
+
+check 'builds' tests/cc "$depths" examples/depths.c
+check 'sample' gives 0 examples/depths.stdout "$depths" crates/booklines/stdin
+
+pulled >"$book"
+expect 'record 0: 1 depth' '  x 9 mm, kind 2, moment -121856.6261500 N m' '  shear 0.000 N'
+check 'negative moment' gives 0 "$expected" "$depths" "$book"
+
+longest >"$book"
+for ((k = 0; k < 2340; k++)); do
+    printf 'record %s: refused 7, concrete\n  shear refused 7, concrete\n' "$k"
+done >"$expected"
+check 'longest book' gives 0 "$expected" "$depths" "$book"
+
+expect 'book refused 1, length of the book'
+printf '\0' >>"$book"
+check 'a byte more' gives 2 "$expected" "$depths" "$book"
+head -c 75 crates/booklines/stdin >"$book"
+check 'cut book' gives 2 "$expected" "$depths" "$book"
+
+check 'missing file' gives 1 /dev/null "$depths" target/tests/none
+check 'missing file is told' says "depths: can't read target/tests/none"
+check 'folder' gives 1 /dev/null "$depths" target
+check 'no file' gives 1 /dev/null "$depths"
+verdict
