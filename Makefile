@@ -24,6 +24,7 @@ bench:
 run:
 	@[ -r "$$BOOK" ] && [ ! -d "$$BOOK" ] || { echo "no book to read: $$BOOK" >&2; exit 1; }
 	@mkdir -p target
+	@[ -x target/bin/booklines ] || echo 'proving and building the book program' >&2
 	@rt check booklines >target/booklines.log 2>&1 || { cat target/booklines.log >&2; exit 1; }
 	@tests/start target/booklines target/bin/booklines
 	@target/booklines <"$$BOOK"

@@ -15,7 +15,7 @@ use Rattle.law.specs.Law.{lawAnswer}
 use Rattle.law.proofs.Answers.{number, some-refusal, no-refusal}
 use Rattle.balance.specs.declared.Listing.{Listing}
 use Rattle.balance.specs.Depths.{lastDepth, listed, words}
-use Rattle.balance.specs.Answers.{gridRefusal, answered, noAmount, amountAnswer, listRefusal, unlisted, listAnswer, rowAfter}
+use Rattle.balance.specs.Answers.{gridRefusal, answered, noAmount, amountAnswer, depthsRefusal, listRefusal, unlisted, listAnswer, rowAfter}
 
 module _ (s : Section) (a : LawAnswer) (is : a ≡ lawAnswer s) where
   -- ---- an amount at a depth
@@ -41,14 +41,14 @@ module _ (s : Section) (a : LawAnswer) (is : a ≡ lawAnswer s) where
     Answers listing after = (listing ≡ listAnswer s (length row)) × (after ≡ rowAfter s row)
 
     pub refuses-list : (a .refusal ≡ 0 → ⊥) → Answers (unlisted (a .refusal)) row
-    unfolding listAnswer listRefusal rowAfter
+    unfolding listAnswer listRefusal depthsRefusal rowAfter
     refuses-list h =
         let t = some-refusal s is h in
-        (rw (t, number s is), rw (t, t))
+        (rw (t, number s is), rw (t, t, t))
 
     module _ (n : ℕ) (count : n ≡ length (listed s)) (ok : a .refusal ≡ 0) where
       pub lists-none : n ≡ 0 → Answers (unlisted 14) row
-      unfolding listAnswer listRefusal rowAfter
+      unfolding listAnswer listRefusal depthsRefusal rowAfter
       lists-none e = let z = no-refusal s is ok in let c = sym count ∙ e in (rw (z, c), rw (z, c))
 
       module _ (has : n ≡ 0 → ⊥) where
@@ -56,14 +56,14 @@ module _ (s : Section) (a : LawAnswer) (is : a ≡ lawAnswer s) where
         there = lt-ltb 0 (length (listed s)) (pos-of-ne-zero (λ z. has (count ∙ z)))
 
         pub lists-short : length row < 3 * n → Answers (record { refusal = 15; count = n }) row
-        unfolding listAnswer listRefusal rowAfter
+        unfolding listAnswer listRefusal depthsRefusal rowAfter
         lists-short h =
             let z = no-refusal s is ok in
             let f = lt-leb (3 * length (listed s)) (length row) (rw count at h) in
             (rw (z, there, f, count), rw (z, there, f))
 
         pub lists : 3 * n ≤ length row → Answers (record { refusal = 0; count = n }) (words (listed s) ++ drop (3 * length (listed s)) row)
-        unfolding listAnswer listRefusal rowAfter
+        unfolding listAnswer listRefusal depthsRefusal rowAfter
         lists h =
             let z = no-refusal s is ok in
             let f = le-leb (3 * length (listed s)) (length row) (rw count at h) in

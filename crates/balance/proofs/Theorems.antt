@@ -11,7 +11,7 @@ use lib.IntN.{ℤ, pos, natAbs, _-ℤ_, _*ℤ_}
 use lib.ListN.{length}
 use borrow.Author.Tests.{lt-ltb}
 use Rattle.section.specs.declared.Section.{Section}
-use Rattle.section.specs.Refusal.{line, sectionRefusal}
+use Rattle.section.specs.Refusal.{line, firstOf, sectionRefusal}
 use Rattle.section.proofs.Accepted.{accepted}
 use Rattle.law.specs.Law.{lawOf}
 use Rattle.law.specs.Stress.{Stress, signed}
@@ -19,7 +19,7 @@ use Rattle.law.proofs.Sides.{signed-scale}
 use Rattle.balance.specs.Forces.{area, stripStress, barStress, imbalance, moment}
 use Rattle.balance.specs.Depths.{Entry, kindAt, lastDepth, listed, Balances, Rising}
 use Rattle.balance.specs.Exact.{exactOver, SameOver, common, exactImbalance, exactMoment, ClearlyAbove, ClearlyBelow}
-use Rattle.balance.specs.Answers.{listRefusal}
+use Rattle.balance.specs.Answers.{depthsRefusal, listRefusal}
 use Rattle.balance.proofs.Listed.{list-only, list-all, list-rising, list-empty, empty-list}
 use Rattle.balance.proofs.Signs.{falls, rises, kind-one, kind-two}
 use Rattle.balance.proofs.Rounded.{strip-divides, bar-divides, area-positive, imbalance-within, moment-within, above, below}
@@ -46,7 +46,7 @@ listed-rising s = list-rising (kindAt s) (moment s) (lastDepth s)
 pub none-listed : (s : Section) → (listed s ≡ []) ↔ ((x : ℕ) → 1 ≤ x → x ≤ lastDepth s → kindAt s x ≡ 0)
 none-listed s = (list-empty (kindAt s) (moment s) (lastDepth s), empty-list (kindAt s) (moment s) (lastDepth s))
 
-fourteen-where-empty : (es : List Entry) (rest : ℕ) → (rest ≡ 14 → ⊥) → (line (ltb 0 (length es)) 14 rest ≡ 14) ↔ (es ≡ [])
+fourteen-where-empty : (es : List Entry) (rest : ℕ) → (rest ≡ 14 → ⊥) → (firstOf (line (ltb 0 (length es)) 14 0) rest ≡ 14) ↔ (es ≡ [])
 fourteen-where-empty [] rest h = (λ e. refl, λ e. refl)
 fourteen-where-empty (e ∷ es) rest h = rw (lt-ltb 0 (length (e ∷ es)) (omega arith)) (λ e. absurd (h e), λ e. omega (arith, ap length e))
 
@@ -55,7 +55,7 @@ not-fourteen true e = omega arith
 not-fourteen false e = omega arith
 
 pub fourteen-exactly : (s : Section) (room : ℕ) → sectionRefusal s ≡ 0 → (listRefusal s room ≡ 14) ↔ ((x : ℕ) → 1 ≤ x → x ≤ lastDepth s → kindAt s x ≡ 0)
-unfolding listRefusal
+unfolding listRefusal depthsRefusal
 fourteen-exactly s room ok = rw ok (Iff·trans (fourteen-where-empty (listed s) _ (not-fourteen (leb (3 * length (listed s)) room))) (none-listed s))
 
 -- ---- 2. the rounded sums lie within one kPa times the area of the exact ones, the moments within that times h

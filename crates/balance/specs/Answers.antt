@@ -32,9 +32,13 @@ imbalanceAnswer s x = amountAnswer s x (imbalance s x)
 abbrev pub momentAnswer : Section → ℕ → Amount
 momentAnswer s x = amountAnswer s x (moment s x)
 
--- ---- the list, into a row of so many words: 7 to 13, then 14 where there is no depth to list, then 15 where the row is shorter than three words a depth
+-- ---- the list: 7 to 13 first, then 14 where there is no depth to list
+unfoldable pub depthsRefusal : Section → ℕ
+depthsRefusal s = firstOf (sectionRefusal s) (line (ltb 0 (length (listed s))) 14 0)
+
+-- into a row of so many words: then 15 where it is shorter than three words a depth
 unfoldable pub listRefusal : Section → ℕ → ℕ
-listRefusal s room = firstOf (sectionRefusal s) (line (ltb 0 (length (listed s))) 14 (line (leb (3 * length (listed s)) room) 15 0))
+listRefusal s room = firstOf (depthsRefusal s) (line (leb (3 * length (listed s)) room) 15 0)
 
 -- where nothing is listed
 abbrev pub unlisted : ℕ → Listing

@@ -11,9 +11,10 @@ use Rattle.arith.specs.Below.{allBelow}
 use Rattle.arith.proofs.Tests.{both, all-below, below-all}
 use Rattle.section.specs.Refusal.{line, within}
 use Rattle.section.proofs.Lines.{passed, none-of, from-to}
-use Rattle.book.specs.Book.{indexOf, countOf, statedLength, letterOf, startOf, layersAt, endOf, lengthRight, lettersRight, indexRight, endsRight, recordsRight, bookRefusal, askedRefusal}
+use Rattle.book.specs.Record.{layersAt}
+use Rattle.book.specs.Book.{indexOf, countOf, statedLength, letterOf, startOf, endOf, lengthRight, lettersRight, indexRight, endsRight, recordsRight, bookRefusal, askedRefusal}
 use Rattle.book.specs.Code.{Sized}
-use Rattle.book.specs.Good.{StandsIn, GoodBook}
+use Rattle.book.specs.Good.{StandsIn, RecordsStand, GoodBook}
 
 module _ (s : List ℕ) where
   -- ---- line by line
@@ -41,18 +42,24 @@ module _ (s : List ℕ) where
   unfolding endsRight
   ends-stands i e =
       let k = both _ (eqb (endOf s i) (startOf s (i + 1))) e in
-      let l = both (leb (layersAt s i) 8) (leb (endOf s i) (indexOf s)) (k .0) in
+      let l = both (leb (layersAt s (startOf s i)) 8) (leb (endOf s i) (indexOf s)) (k .0) in
       record { few = leb-true _ _ (l .0); inside = leb-true _ _ (l .1); meets = eqb-true _ _ (k .1) }
 
   stands-ends : (i : ℕ) → StandsIn s i → endsRight s i ≡ true
   unfolding endsRight
   stands-ends i r = rw (le-leb _ _ (r .few), le-leb _ _ (r .inside), eq-eqb _ _ (r .meets))
 
-  records-stand : recordsRight s ≡ true → (startOf s 0 ≡ 0) × ((i : ℕ) → i < countOf s → StandsIn s i)
+  pub records-exactly : (recordsRight s ≡ true) ↔ RecordsStand s
   unfolding recordsRight
-  records-stand e =
-      let k = both (eqb (startOf s 0) 0) (allBelow (countOf s) (endsRight s)) e in
-      (eqb-true _ _ (k .0), λ i h. ends-stands i (all-below (countOf s) (endsRight s) (k .1) i h))
+  records-exactly = (stand, right)
+    where
+      stand : recordsRight s ≡ true → RecordsStand s
+      stand e =
+          let k = both (eqb (startOf s 0) 0) (allBelow (countOf s) (endsRight s)) e in
+          record { first = eqb-true _ _ (k .0); each = λ i h. ends-stands i (all-below (countOf s) (endsRight s) (k .1) i h) }
+
+      right : RecordsStand s → recordsRight s ≡ true
+      right r = rw (eq-eqb _ _ (r .first), below-all (countOf s) (endsRight s) (λ i h. stands-ends i (r .each i h)))
 
   -- ---- the table
   pub good : bookRefusal s ≡ 0 → GoodBook s
@@ -62,19 +69,17 @@ module _ (s : List ℕ) where
       let p2 = passed (lettersRight s) 1 _ (p1 .1) in
       let p3 = passed (indexRight s) 2 _ (p2 .1) in
       let p4 = passed (recordsRight s) 3 0 (p3 .1) in
-      let r = records-stand (p4 .0) in
       record {
         least = length-sized (p1 .0) .0;
         most = length-sized (p1 .0) .1;
         stated = length-stated (p1 .0);
         letters = letters-stand (p2 .0);
         index = index-stands (p3 .0);
-        first = r .0;
-        records = r .1;
+        records = records-exactly .0 (p4 .0);
       }
 
   pub is-good : GoodBook s → bookRefusal s ≡ 0
-  unfolding bookRefusal lengthRight lettersRight indexRight recordsRight
+  unfolding bookRefusal lengthRight lettersRight indexRight
   is-good g =
       rw (
         le-leb 16 (length s) (g .least),
@@ -85,8 +90,7 @@ module _ (s : List ℕ) where
         eq-eqb _ _ (g .letters .2),
         eq-eqb _ _ (g .letters .3),
         eq-eqb _ _ (g .index),
-        eq-eqb _ _ (g .first),
-        below-all (countOf s) (endsRight s) (λ i h. stands-ends i (g .records i h)),
+        records-exactly .1 (g .records),
       )
 
   pub good-exactly : (bookRefusal s ≡ 0) ↔ GoodBook s

@@ -12,8 +12,8 @@ use borrow.Author.Tests.{eq-eqb, ne-eqb, le-leb}
 use Rattle.arith.proofs.Answers.{of-answer}
 use Rattle.section.specs.Refusal.{line}
 use Rattle.book.specs.declared.RecordAnswer.{RecordAnswer}
-use Rattle.book.specs.Record.{le16At, recordRight, recordRefusal}
-use Rattle.book.specs.Book.{startOf, sizeOf, askedRefusal, noRecord, recordAnswer, partOf, recordOf}
+use Rattle.book.specs.Record.{le16At, sizeAt, recordRight, recordRefusal}
+use Rattle.book.specs.Book.{startOf, askedRefusal, noRecord, recordAnswer, partOf, recordOf}
 use Rattle.book.specs.Good.{GoodBook, StandsIn, Shows}
 use Rattle.book.proofs.Good.{good, asked}
 
@@ -23,13 +23,13 @@ module _ (s : List ℕ) (i : ℕ) where
     book-good = good s (asked s i ok .0)
 
     stands : StandsIn s i
-    stands = book-good .records i (asked s i ok .1)
+    stands = book-good .records .each i (asked s i ok .1)
 
-    part-is : recordOf s i ≡ partOf s (startOf s i) (sizeOf s i)
+    part-is : recordOf s i ≡ partOf s (startOf s i) (sizeAt s (startOf s i))
     unfolding recordOf
     part-is = rw ok
 
-    ends-inside : startOf s i + sizeOf s i ≤ length s
+    ends-inside : startOf s i + sizeAt s (startOf s i) ≤ length s
     ends-inside = omega (arith, stands .inside, book-good .index)
 
     pub part-shows : Shows s i (recordOf s i)
@@ -42,7 +42,7 @@ module _ (s : List ℕ) (i : ℕ) where
     -- 6 then tests nothing but the zero
     pub part-refusal : recordRefusal (recordOf s i) ≡ line (eqb (le16At s (startOf s i + 22)) 0) 6 0
     unfolding recordRefusal recordRight
-    part-refusal = rw (part-shows .size, part-le16 20 (omega arith), part-le16 22 (omega arith), eq-eqb (sizeOf s i) _ refl, le-leb _ 8 (stands .few))
+    part-refusal = rw (part-shows .size, part-le16 20 (omega arith), part-le16 22 (omega arith), eq-eqb (sizeAt s (startOf s i)) _ refl, le-leb _ 8 (stands .few))
 
   -- ---- the empty part
   none-refused : (askedRefusal s i ≡ 0 → ⊥) → recordOf s i ≡ []

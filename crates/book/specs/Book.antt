@@ -9,7 +9,7 @@ use Rattle.arith.specs.Below.{allBelow}
 use Rattle.section.specs.Refusal.{line, firstOf, within}
 use Rattle.book.specs.declared.BookAnswer.{BookAnswer}
 use Rattle.book.specs.declared.RecordAnswer.{RecordAnswer}
-use Rattle.book.specs.Record.{le16At, le32At}
+use Rattle.book.specs.Record.{le32At, layersAt, sizeAt}
 
 -- ---- the last 16 bytes: the place of the index, n, the length of the book, the letters BOOK
 abbrev pub indexOf : List ℕ → ℕ
@@ -29,22 +29,16 @@ letterOf s back = getD s (length s - back) 0
 unfoldable pub startOf : List ℕ → ℕ → ℕ
 startOf s i = cond (ltb i (countOf s)) (le32At s (indexOf s + 4 * i)) (indexOf s)
 
--- its layer count m, its 24 + 4m bytes, and where they end
-abbrev pub layersAt : List ℕ → ℕ → ℕ
-layersAt s i = le16At s (startOf s i + 20)
-
-abbrev pub sizeOf : List ℕ → ℕ → ℕ
-sizeOf s i = 24 + 4 * layersAt s i
-
+-- and where it ends
 abbrev pub endOf : List ℕ → ℕ → ℕ
-endOf s i = startOf s i + sizeOf s i
+endOf s i = startOf s i + sizeAt s (startOf s i)
 
 -- ---- what is refused of a book
 -- 1: of 16 to 65,536 bytes, and of its stated length
 unfoldable pub lengthRight : List ℕ → Bool
 lengthRight s = within 16 65536 (length s) && eqb (statedLength s) (length s)
 
--- 2: the last four bytes are BOOK
+-- 2: the last four bytes are BOOK: 66, 79, 79, 75
 unfoldable pub lettersRight : List ℕ → Bool
 lettersRight s = eqb (letterOf s 4) 66 && eqb (letterOf s 3) 79 && eqb (letterOf s 2) 79 && eqb (letterOf s 1) 75
 
@@ -55,7 +49,7 @@ indexRight s = eqb (indexOf s + 4 * countOf s + 16) (length s)
 -- 4: the first record (or, where n is 0, the index) at 0; no layer count over 8; no record that runs past the index or doesn't end where
 -- the next (or the index) starts
 unfoldable pub endsRight : List ℕ → ℕ → Bool
-endsRight s i = leb (layersAt s i) 8 && leb (endOf s i) (indexOf s) && eqb (endOf s i) (startOf s (i + 1))
+endsRight s i = leb (layersAt s (startOf s i)) 8 && leb (endOf s i) (indexOf s) && eqb (endOf s i) (startOf s (i + 1))
 
 unfoldable pub recordsRight : List ℕ → Bool
 recordsRight s = eqb (startOf s 0) 0 && allBelow (countOf s) (endsRight s)
@@ -83,7 +77,7 @@ abbrev pub noRecord : ℕ → RecordAnswer
 noRecord number = record { refusal = number; at = 0; len = 0 }
 
 unfoldable pub recordAnswer : List ℕ → ℕ → RecordAnswer
-recordAnswer s i = unlessRefused (askedRefusal s i) (record { refusal = 0; at = startOf s i; len = sizeOf s i }) noRecord
+recordAnswer s i = unlessRefused (askedRefusal s i) (record { refusal = 0; at = startOf s i; len = sizeAt s (startOf s i) }) noRecord
 
 -- so many bytes of the book from a place on
 abbrev pub partOf : List ℕ → ℕ → ℕ → List ℕ
@@ -91,4 +85,4 @@ partOf s at len = take len (drop at s)
 
 -- the record's part, not copied; the empty part where it is refused
 unfoldable pub recordOf : List ℕ → ℕ → List ℕ
-recordOf s i = unlessRefused (askedRefusal s i) (partOf s (startOf s i) (sizeOf s i)) (λ number. [])
+recordOf s i = unlessRefused (askedRefusal s i) (partOf s (startOf s i) (sizeAt s (startOf s i))) (λ number. [])

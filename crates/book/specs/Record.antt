@@ -23,13 +23,16 @@ le32At r i = le16At r i + 65536 * le16At r (i + 2)
 unfoldable pub signed32 : ℕ → ℤ
 signed32 n = cond (ltb n 2147483648) (pos n) (pos n -ℤ pos 4294967296)
 
--- the layer count m
-abbrev pub countIn : List ℕ → ℕ
-countIn r = le16At r 20
+-- the layer count m of a record that starts at a place, and its 24 + 4m bytes
+abbrev pub layersAt : List ℕ → ℕ → ℕ
+layersAt r at = le16At r (at + 20)
 
--- 24 + 4m bytes, m at most 8, the zero zero
+abbrev pub sizeAt : List ℕ → ℕ → ℕ
+sizeAt r at = 24 + 4 * layersAt r at
+
+-- a lone one: 24 + 4m bytes, m at most 8, the zero zero
 unfoldable pub recordRight : List ℕ → Bool
-recordRight r = eqb (length r) (24 + 4 * countIn r) && leb (countIn r) 8 && eqb (le16At r 22) 0
+recordRight r = eqb (length r) (sizeAt r 0) && leb (layersAt r 0) 8 && eqb (le16At r 22) 0
 
 unfoldable pub recordRefusal : List ℕ → ℕ
 recordRefusal r = line (recordRight r) 6 0
@@ -52,7 +55,7 @@ sectionIn r = record {
   load = signed32 (le32At r 12);
   asw = le16At r 16;
   spacing = le16At r 18;
-  count = countIn r;
+  count = layersAt r 0;
   layers = layersIn r;
 }
 

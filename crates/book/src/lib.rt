@@ -6,8 +6,8 @@ ghost use Prim.Native.Nat.{_+_, _≤_, _<_, _^_};
 ghost use lib.ListN.{length};
 ghost use Rattle.arith.specs.Below.{allBelow};
 ghost use Rattle.book.specs.Code.{Sized};
-ghost use Rattle.book.specs.Book.{indexOf, countOf, startOf, layersAt, lengthRight, lettersRight, indexRight, endsRight, recordsRight, bookRefusal, bookAnswer, askedRefusal, recordAnswer, recordOf};
-ghost use Rattle.book.specs.Record.{recordRight, layerIn, layersIn, sectionIn, noSection, sectionAnswer};
+ghost use Rattle.book.specs.Book.{indexOf, countOf, startOf, lengthRight, lettersRight, indexRight, endsRight, recordsRight, bookRefusal, bookAnswer, askedRefusal, recordAnswer, recordOf};
+ghost use Rattle.book.specs.Record.{layersAt, sizeAt, recordRight, layerIn, layersIn, sectionIn, noSection, sectionAnswer};
 use number::byte;
 use number::le16;
 use number::le32;
@@ -33,11 +33,25 @@ pub struct SectionAnswer {
     pub section: Section,
 }
 
+// Of a record that starts at a place.
+fn layers_at(bytes: &[u8], at: usize) -> u16
+    requires { ⌜ at < 2 ^ 32 ⌝ }
+    ensures { λ r. ⌜ r ≡ layersAt (now (bytes .entry)) at ⌝ }
+{
+    le16(bytes, at + 20)
+}
+
+fn size_at(bytes: &[u8], at: usize) -> usize
+    requires { ⌜ at < 2 ^ 32 ⌝ }
+    ensures { λ r. ⌜ (r ≡ sizeAt (now (bytes .entry)) at) × (r < 2 ^ 32) ⌝ }
+{
+    24 + 4 * (layers_at(bytes, at) as usize)
+}
+
 fn record_right(part: &[u8]) -> bool
     ensures { λ r. ⌜ r ≡ recordRight (now (part .entry)) ⌝ }
 {
-    let m = le16(part, 20) as usize;
-    (part.len() == 24 + 4 * m) & (m <= 8) & (le16(part, 22) == 0)
+    (part.len() == size_at(part, 0)) & (layers_at(part, 0) <= 8) & (le16(part, 22) == 0)
 }
 
 fn layer_in(part: &[u8], j: usize) -> Layer
@@ -79,7 +93,7 @@ fn section_in(part: &[u8]) -> Section
         load: signed(le32(part, 12)),
         asw: le16(part, 16),
         spacing: le16(part, 18),
-        count: le16(part, 20),
+        count: layers_at(part, 0),
         layers: layers_in(part),
     }
 }
@@ -174,21 +188,14 @@ fn start_of(book: &[u8], i: u32) -> u32
     index
 }
 
-fn layers_at(book: &[u8], i: u32) -> u32
-    requires { ⌜ Sized (now book) ⌝ }
-    ensures { λ r. ⌜ (r ≡ layersAt (now (book .entry)) i) × (r < 65536) ⌝ }
-{
-    let start = start_of(book, i) as usize;
-    le16(book, start + 20) as u32
-}
-
 fn ends_right(book: &[u8], i: u32) -> bool
     requires { ⌜ Sized (now book) × (i + 1 < 2 ^ 32) ⌝ }
     ensures { λ r. ⌜ r ≡ endsRight (now (book .entry)) i ⌝ }
 {
-    let m = layers_at(book, i) as u64;
-    let end = start_of(book, i) as u64 + (24 + 4 * m);
-    (m <= 8) & (end <= index_of(book) as u64) & (end == start_of(book, i + 1) as u64)
+    let start = start_of(book, i) as usize;
+    let m = layers_at(book, start);
+    let end = start + size_at(book, start);
+    (m <= 8) & (end <= index_of(book) as usize) & (end == start_of(book, i + 1) as usize)
 }
 
 // Each record, also after one that is wrong: a book so small is soon looked through.
@@ -273,10 +280,11 @@ pub fn record_place(bytes: &[u8], number: u32) -> RecordAnswer
             len: 0,
         };
     }
+    let at = start_of(bytes, number);
     RecordAnswer {
         refusal: 0,
-        at: start_of(bytes, number),
-        len: 24 + 4 * layers_at(bytes, number),
+        at: at,
+        len: size_at(bytes, at as usize) as u32,
     }
 }
 

@@ -11,41 +11,44 @@ use borrow.Author.Tests.{ltb-true, le-leb, ne-eqb}
 use Rattle.arith.proofs.Answers.{of-answer}
 use Rattle.section.specs.declared.Section.{Section}
 use Rattle.section.specs.Refusal.{line, sectionRefusal}
-use Rattle.section.proofs.Lines.{passed, none-of, same-after}
+use Rattle.section.proofs.Lines.{passed, none-of, only-first}
 use Rattle.section.proofs.Accepted.{accepted}
 use Rattle.balance.specs.declared.Listing.{Listing}
 use Rattle.balance.specs.Forces.{moment}
 use Rattle.balance.specs.Depths.{lastDepth, kindAt, listed, words}
-use Rattle.balance.specs.Answers.{listRefusal, unlisted, listAnswer, rowAfter}
+use Rattle.balance.specs.Answers.{depthsRefusal, listRefusal, unlisted, listAnswer, rowAfter}
 use Rattle.balance.proofs.Listed.{count-most, words-length, wordsOf, word-of}
-use Rattle.booklines.specs.Line.{leastTo, entryOf, bendingRefusal, unbent, bendingAnswer}
+use Rattle.booklines.specs.Line.{leastTo, entryOf, noBending, bendingAnswer}
 use Rattle.booklines.proofs.Least.{least-alike}
 
 -- ---- into a row that holds every list, what is refused is just what the line's bending is refused by
-no-fifteen : (s : Section) (room : ℕ) → 3000 ≤ room → listRefusal s room ≡ bendingRefusal s
-unfolding listRefusal bendingRefusal
-no-fifteen s room h = same-after (sectionRefusal s) _ _ (λ e. rw (le-leb (3 * length (listed s)) room (omega (arith, count-most (kindAt s) (moment s) (lastDepth s), accepted s e .height .1))))
+no-fifteen : (s : Section) (room : ℕ) → 3000 ≤ room → listRefusal s room ≡ depthsRefusal s
+unfolding listRefusal depthsRefusal
+no-fifteen s room h = only-first (depthsRefusal s) _ (λ e. rw (le-leb (3 * length (listed s)) room (omega (arith, count-most (kindAt s) (moment s) (lastDepth s), high e))))
+  where
+    high : depthsRefusal s ≡ 0 → s .h ≤ 1000
+    high e = accepted s (none-of (sectionRefusal s) _ e .0) .height .1
 
 module _ (s : Section) (row : List ℤ) (room : 3000 ≤ length row) {a : Listing} (is : a ≡ listAnswer s (length row)) where
-  number : a .refusal ≡ bendingRefusal s
-  unfolding listAnswer listRefusal
+  number : a .refusal ≡ depthsRefusal s
+  unfolding listAnswer listRefusal depthsRefusal
   number =
       rw is (of-answer (λ (x : Listing). x .refusal ≡ listRefusal s (length row)) (sectionRefusal s) _ unlisted (λ e. refl) refused)
       ∙ no-fifteen s (length row) room
     where
       refused : (sectionRefusal s ≡ 0 → ⊥) → sectionRefusal s ≡ listRefusal s (length row)
-      refused f = rw (ne-eqb (sectionRefusal s) 0 f)
+      refused f = let e = ne-eqb (sectionRefusal s) 0 f in rw (e, e)
 
-  pub refuses-bending : (a .refusal ≡ 0 → ⊥) → unbent (a .refusal) ≡ bendingAnswer s
+  pub refuses-bending : (a .refusal ≡ 0 → ⊥) → noBending (a .refusal) ≡ bendingAnswer s
   unfolding bendingAnswer
-  refuses-bending h = rw (number, ne-eqb (bendingRefusal s) 0 (λ e. h (number ∙ e)))
+  refuses-bending h = rw (number, ne-eqb (depthsRefusal s) 0 (λ e. h (number ∙ e)))
 
   module _ (ok : a .refusal ≡ 0) where
-    none : bendingRefusal s ≡ 0
+    none : depthsRefusal s ≡ 0
     none = sym number ∙ ok
 
     lines : (sectionRefusal s ≡ 0) × (line (ltb 0 (length (listed s))) 14 0 ≡ 0)
-    unfolding bendingRefusal
+    unfolding depthsRefusal
     lines = none-of (sectionRefusal s) _ none
 
     some : 0 < length (listed s)

@@ -2,16 +2,14 @@
 use Prim.Native.Nat.{ℕ, zero, suc, _-_}
 use mathlib.Core.Bool.{cond}
 use mathlib.Core.List.{List}
-use lib.Dec.{ltb}
 use lib.IntN.{ℤ, pos}
 use lib.ListN.{length, getD}
 use lib.Signed.{ltZ}
 use Rattle.arith.specs.Answers.{unlessRefused}
 use Rattle.section.specs.declared.Section.{Section}
-use Rattle.section.specs.Refusal.{line, firstOf, sectionRefusal}
 use Rattle.balance.specs.declared.Amount.{Amount}
 use Rattle.balance.specs.Depths.{Entry, listed}
-use Rattle.balance.specs.Answers.{noAmount}
+use Rattle.balance.specs.Answers.{noAmount, depthsRefusal}
 use Rattle.shear.specs.Shear.{shearAnswer}
 use Rattle.book.specs.Record.{ofRecord}
 use Rattle.booklines.specs.declared.Bending.{Bending}
@@ -32,15 +30,11 @@ entryOf es j = getD es j (record { depth = 0; kind = 0; moment = pos 0 })
 abbrev pub leastMoment : List Entry → ℤ
 leastMoment es = leastTo (λ j. entryOf es j .moment) (length es - 1)
 
--- 7 to 13, then 14. The program's row holds every list, so there is no 15
-unfoldable pub bendingRefusal : Section → ℕ
-bendingRefusal s = firstOf (sectionRefusal s) (line (ltb 0 (length (listed s))) 14 0)
+abbrev pub noBending : ℕ → Bending
+noBending number = record { refusal = number; count = 0; depth = pos 0; kind = pos 0; moment = pos 0 }
 
-abbrev pub unbent : ℕ → Bending
-unbent number = record { refusal = number; count = 0; depth = pos 0; kind = pos 0; moment = pos 0 }
-
-abbrev pub bent : List Entry → Bending
-bent es = record {
+abbrev pub bendingIn : List Entry → Bending
+bendingIn es = record {
   refusal = 0;
   count = length es;
   depth = pos (entryOf es 0 .depth);
@@ -48,9 +42,10 @@ bent es = record {
   moment = leastMoment es;
 }
 
+-- 7 to 13, then 14. The program's row holds every list, so there is no 15
 unfoldable pub bendingAnswer : Section → Bending
-bendingAnswer s = unlessRefused (bendingRefusal s) (bent (listed s)) unbent
+bendingAnswer s = unlessRefused (depthsRefusal s) (bendingIn (listed s)) noBending
 
 -- ---- a record's line, without its number: 6 as both refusals
 unfoldable pub lineOf : List ℕ → Line
-lineOf r = record { bending = ofRecord r bendingAnswer unbent; shear = ofRecord r shearAnswer noAmount }
+lineOf r = record { bending = ofRecord r bendingAnswer noBending; shear = ofRecord r shearAnswer noAmount }

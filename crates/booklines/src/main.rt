@@ -3,7 +3,7 @@ ghost use mathlib.Core.Path.{_≡_};
 ghost use Prim.Native.Nat.{_+_, _*_, _-_, _≤_, _<_};
 ghost use lib.IntN.{pos, natAbs};
 ghost use lib.ListN.{length, getD};
-ghost use Rattle.booklines.specs.Line.{leastTo, unbent, bendingAnswer, lineOf};
+ghost use Rattle.booklines.specs.Line.{leastTo, noBending, bendingAnswer, lineOf};
 use balance::Amount;
 use libc::STDIN_FILENO;
 use libc::STDOUT_FILENO;
@@ -24,7 +24,7 @@ struct Line {
 
 impl Bending {
     fn refused(number: u32) -> Bending
-        ensures { λ r. ⌜ r ≡ unbent number ⌝ }
+        ensures { λ r. ⌜ r ≡ noBending number ⌝ }
     {
         Bending {
             refusal: number,

@@ -26,9 +26,9 @@ pub none-of : (r next : ℕ) → firstOf r next ≡ 0 → (r ≡ 0) × (next ≡
 none-of zero next e = (refl, e)
 none-of (suc r) next e = absurd (suc-ne-zero r (rw eqb·suc-zero at e))
 
-pub same-after : (r a b : ℕ) → (r ≡ 0 → a ≡ b) → firstOf r a ≡ firstOf r b
-same-after zero a b h = h refl
-same-after (suc r) a b h = rw eqb·suc-zero
+pub only-first : (r next : ℕ) → (r ≡ 0 → next ≡ 0) → firstOf r next ≡ r
+only-first zero next h = h refl
+only-first (suc r) next h = rw eqb·suc-zero
 
 pub same : (t : Bool) (k : ℕ) → line t k k ≡ k
 same true k = refl

@@ -22,9 +22,9 @@ sized c = let g = book-good _ _ (none c) in (g .least, g .most)
 
 returns-2 : tie.Need-returns-2
 unfolding recordAnswer
-returns-2 c = rw (c .layers-at .ensures .0, c .before .start-of .ensures, none (c .before .before))
+returns-2 c = rw (c .size-at .ensures .0, c .before .start-of .ensures, none (c .before .before))
 
 pub record-place-spec : {M : Type 1} → statement M
 record-place-spec =
     tie.close
-    (tie.spec (λ c κs. search needs) returns (λ c κs. sized c) (λ c κs. sized (c .before)) (λ c. search needs) (λ c. search needs) returns-2)
+    (tie.spec (λ c κs. search needs) returns (λ c κs. sized c) (λ c. search needs) (λ c κs. search needs) (λ c. search needs) returns-2)

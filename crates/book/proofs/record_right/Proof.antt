@@ -6,8 +6,7 @@ use Rattle.book.proofs.record_right.Tie as tie
 
 returns : tie.Need-returns
 unfolding recordRight
-returns c = rw (c .le162 .ensures, c .before .le16 .ensures)
+returns c = rw (c .le16 .ensures, c .before .layers-at .ensures, c .before .before .size-at .ensures .0)
 
 pub record-right-spec : {M : Type 1} → statement M
-record-right-spec =
-    tie.close (tie.spec (λ c κs. search needs) (λ c. search needs) (λ c. search needs) (λ c. search needs) (λ c κs. search needs) returns)
+record-right-spec = tie.close (tie.spec (λ c κs. search needs) (λ c κs. search needs) (λ c κs. search needs) returns)

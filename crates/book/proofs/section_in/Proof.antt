@@ -12,7 +12,7 @@ returns c =
     let fyk = load .before .before .before .before in
     rw (
       c .layers-in .ensures,
-      c .before .le169 .ensures,
+      c .before .layers-at .ensures,
       c .before .before .le168 .ensures,
       c .before .before .before .le167 .ensures,
       read32 (record { sfits = load .signed .ok }),

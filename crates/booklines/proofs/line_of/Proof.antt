@@ -4,7 +4,7 @@ use borrow.Author.Needs.{needs}
 use Rattle.balance.specs.Answers.{noAmount}
 use Rattle.shear.specs.Shear.{shearAnswer}
 use Rattle.book.proofs.Answers.{refuses-record, answers-record}
-use Rattle.booklines.specs.Line.{unbent, bendingAnswer, lineOf}
+use Rattle.booklines.specs.Line.{noBending, bendingAnswer, lineOf}
 use Rattle.booklines.proofs.line_of.Statement.{statement}
 use Rattle.booklines.proofs.line_of.Tie as tie
 
@@ -14,7 +14,7 @@ returns c =
     let a = c .before .before .before .before .section-of .ensures in
     let t = c .before .before .if1 .taken in
     rw (
-      c .before .refused .ensures ∙ refuses-record _ bendingAnswer unbent _ a t,
+      c .before .refused .ensures ∙ refuses-record _ bendingAnswer noBending _ a t,
       c .refused2 .ensures ∙ refuses-record _ shearAnswer noAmount _ a t,
     )
 
@@ -24,7 +24,7 @@ returns-2 c =
     let a = c .before .before .before .before .section-of .ensures in
     let t = c .before .before .if1 .left in
     rw (
-      c .before .bending-of .ensures ∙ answers-record _ bendingAnswer unbent _ a t,
+      c .before .bending-of .ensures ∙ answers-record _ bendingAnswer noBending _ a t,
       c .shear .ensures ∙ answers-record _ shearAnswer noAmount _ a t,
     )
 
