@@ -7,7 +7,7 @@ PREFIX ?= /usr/local
 export BOOK PREFIX DESTDIR
 
 help:
-	@echo 'make test                  prove every crate, then test the static library from C and from Rust'
+	@echo 'make test                  prove every crate, then test the library from C and from Rust, and these commands'
 	@echo 'make bench                 time the list of depths against plain C'
 	@echo 'make run [BOOK=file]       print the lines of a book, the sample book if none is named'
 	@echo 'make lib                   leave the static library in target/staticlib/libpanel.a'
@@ -33,11 +33,12 @@ lib:
 	@rt staticlib panel
 
 install: lib
-	@install -d "$$DESTDIR$$PREFIX/include" "$$DESTDIR$$PREFIX/lib/pkgconfig"
-	@install -m 644 include/fordwhistle.h "$$DESTDIR$$PREFIX/include"
-	@install -m 644 target/staticlib/libpanel.a "$$DESTDIR$$PREFIX/lib"
-	@sed "s|@PREFIX@|$$(realpath -ms "$$PREFIX")|" fordwhistle.pc.in >target/fordwhistle.pc
-	@install -m 644 target/fordwhistle.pc "$$DESTDIR$$PREFIX/lib/pkgconfig"
+	@set -e; prefix=$$(realpath -ms "$$PREFIX"); to=$$DESTDIR$$prefix; \
+	install -d "$$to/include" "$$to/lib/pkgconfig"; \
+	install -m 644 include/fordwhistle.h "$$to/include"; \
+	install -m 644 target/staticlib/libpanel.a "$$to/lib"; \
+	{ printf 'prefix=%s\n' "$$prefix"; cat fordwhistle.pc.in; } >target/fordwhistle.pc; \
+	install -m 644 target/fordwhistle.pc "$$to/lib/pkgconfig"
 
 fmt:
 	@rt fmt

@@ -1,6 +1,6 @@
 /* depths BOOK-FILE: prints of each record of a section book every depth at which its section balances, with the moment there, and its shear
  * resistance; or what is refused of it. Ends with 0 where the book is good, 1 where the file can't be read and 2 where the book is refused.
- * A program for a device can start from it: it is C99 and allocates nothing. */
+ * A program for a device can start from it: it is C99, and its own memory is static. */
 #include "fordwhistle.h"
 
 #include <inttypes.h>

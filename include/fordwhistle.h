@@ -1,6 +1,6 @@
 /* fordwhistle.h: the section unit, for the panel's C program. Link libpanel.a; installed, by `pkg-config --cflags --libs fordwhistle`.
  *
- * Every function takes any input, returns, keeps nothing and calls nothing. An answer begins with its refusal: 0 where the call is
+ * Every function takes any input, returns, keeps nothing and calls nothing but memset. An answer begins with its refusal: 0 where the call is
  * answered, else the first number below that holds of those that concern the call, and every other number of the answer is then 0
  * (of a double, plus zero), save the count beside 15. A refused call writes nothing, and of all functions only fw_depths writes at all,
  * into the row that it is lent.
@@ -174,7 +174,7 @@ typedef struct {
  * and count is then that number. On any refusal the whole row stays.
  * row is a pointer to as many words as said that may be read and written; none of them is part of the record. words is any number, 0 too,
  * and row may then be null: where there is a depth to list, that is refused 15 and so asks for the count alone. 3 h words hold every list
- * of a section of height h, so 3000 the list of any section. */
+ * of a section of height h, so 3000 the list of any section. The call takes some 9 KB of stack, that of any other function less than 1. */
 fw_listed fw_depths(const uint8_t *record, size_t len, int64_t *row, size_t words);
 
 /* The shear resistance of a section with bars. d and fyd are as above. As is the area of the layers below mid-height (twice the depth is

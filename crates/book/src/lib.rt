@@ -2,8 +2,7 @@
 mod number;
 
 ghost use mathlib.Core.Path.{_≡_};
-ghost use Prim.Native.Nat.{_+_, _≤_, _<_, _^_};
-ghost use lib.ListN.{length};
+ghost use Prim.Native.Nat.{_+_, _<_, _^_};
 ghost use Rattle.arith.specs.Below.{allBelow};
 ghost use Rattle.book.specs.Code.{Sized};
 ghost use Rattle.book.specs.Book.{indexOf, countOf, startOf, lengthRight, lettersRight, indexRight, endsRight, recordsRight, bookRefusal, bookAnswer, askedRefusal, recordAnswer, recordOf};
@@ -143,7 +142,7 @@ fn length_right(book: &[u8]) -> bool
 }
 
 fn letters_right(book: &[u8]) -> bool
-    requires { ⌜ 16 ≤ length (now book) ⌝ }
+    requires { ⌜ Sized (now book) ⌝ }
     ensures { λ r. ⌜ r ≡ lettersRight (now (book .entry)) ⌝ }
 {
     let len = book.len();
@@ -188,6 +187,7 @@ fn start_of(book: &[u8], i: u32) -> u32
     index
 }
 
+// A place past the end is met too: what is read there is 0. Where 3 has passed, such a record ends past the index.
 fn ends_right(book: &[u8], i: u32) -> bool
     requires { ⌜ Sized (now book) × (i + 1 < 2 ^ 32) ⌝ }
     ensures { λ r. ⌜ r ≡ endsRight (now (book .entry)) i ⌝ }

@@ -58,7 +58,7 @@ fn printed(pieces: Vec<Vec<u8>>, pause: Duration) -> String {
         output.unwrap().read_to_string(&mut text).map(|_| text)
     });
     let status = end(&mut program);
-    assert!(status.code().is_some(), "{status}");
+    assert!(status.success(), "{status}");
     writer.join().unwrap().unwrap();
     reader.join().unwrap().unwrap()
 }
@@ -147,26 +147,27 @@ fn a_book_may_come_in_pieces() {
     assert_eq!(printed(pieces, pause), rules::lines(&longest));
 }
 
-/// How a shell starts it so that its output takes nothing, once nobody reads that: closed, full, without a reader where that ends the
-/// program, and where it does not.
-const STARTS: [&str; 4] = [
-    r#"exec "$0" >&-"#,
-    r#"exec "$0" >/dev/full"#,
-    r#"exec "$0""#,
-    r#"trap '' PIPE; exec "$0""#,
+/// How a shell starts it so that its output takes nothing, once nobody reads that, and the signal that may end it: closed, full, without a
+/// reader where that does not end a program, and where it does.
+const STARTS: [(&str, Option<i32>); 4] = [
+    (r#"exec "$0" >&-"#, None),
+    (r#"exec "$0" >/dev/full"#, None),
+    (r#"trap '' PIPE; exec "$0""#, None),
+    (r#"exec "$0""#, Some(SIGPIPE)),
 ];
 
 #[test]
 fn it_ends_where_its_output_takes_nothing() {
     let longest = Books::new(21).of_length(65_536);
     for book in [longest, books::sample(), Parts::of(vec![])] {
-        for start in STARTS {
+        for (start, signal) in STARTS {
             let mut program = started(Command::new("sh").args(["-c", start, PROGRAM]));
             drop(program.stdout.take());
             let (input, pieces) = (program.stdin.take(), vec![book.bytes()]);
             let writer = spawn(move || write(input.unwrap(), pieces, Duration::ZERO));
             let status = end(&mut program);
-            assert!(matches!(status.signal(), None | Some(SIGPIPE)), "{status}");
+            let ended = status.success() || signal.is_some() && status.signal() == signal;
+            assert!(ended, "{start}: {status}");
             writer.join().unwrap().unwrap();
         }
     }

@@ -57,7 +57,7 @@ book-refusal-spec =
     (tie.spec
     (λ c κs. search needs)
     returns
-    (λ c κs. sized c .0)
+    (λ c κs. sized c)
     (λ c κs. sized (c .before))
     returns-2
     returns-3
