@@ -1,13 +1,10 @@
--- What holds of an answer: it bears the number that it is refused by. Assumes nothing.
+-- What holds of an answer, refused or not. Assumes nothing.
 use Prim.Native.Nat.{ℕ, zero, suc}
-use mathlib.Core.Path.{_≡_, refl}
+use mathlib.Core.Path.{_≡_, refl, sym, _∙_}
 use native.Mathlib.Nat.{suc-ne-zero}
 use lib.Dec.{eqb·suc-zero}
+use borrow.Author.Tests.{ne-eqb}
 use Rattle.arith.specs.Answers.{unlessRefused}
-
-pub bears : {X : Type 0} (f : X → ℕ) (n : ℕ) (answered : X) (refused : ℕ → X) → f answered ≡ 0 → f (refused n) ≡ n → f (unlessRefused n answered refused) ≡ n
-bears f zero answered refused a r = a
-bears f (suc n) answered refused a r = rw eqb·suc-zero r
 
 -- what holds in both cases
 pub of-answer :
@@ -15,3 +12,11 @@ pub of-answer :
     → (n ≡ 0 → P answered) → ((n ≡ 0 → ⊥) → P (refused n)) → P (unlessRefused n answered refused)
 of-answer P zero answered refused a r = a refl
 of-answer P (suc n) answered refused a r = rw eqb·suc-zero (r (suc-ne-zero n))
+
+-- it bears the number that it is refused by
+pub bears : {X : Type 0} (f : X → ℕ) (n : ℕ) (answered : X) (refused : ℕ → X) → f answered ≡ 0 → f (refused n) ≡ n → f (unlessRefused n answered refused) ≡ n
+bears f n answered refused a r = of-answer (λ x. f x ≡ n) n answered refused (λ e. a ∙ sym e) (λ h. r)
+
+-- it is what goes with a number that is not 0
+pub refuses : {X : Type 0} {n k : ℕ} (answered : X) (refused : ℕ → X) → k ≡ n → (k ≡ 0 → ⊥) → refused k ≡ unlessRefused n answered refused
+refuses {n = n} answered refused is some = rw (is, ne-eqb n 0 (λ e. some (is ∙ e)))

@@ -1,15 +1,16 @@
--- The answers of `imbalance`, `moment` and `depths`, from that of `Law::of`. Assumes nothing.
+-- The answers of `imbalance`, `moment` and `depths`, from that of `Law::of`; and what that of `depths` tells. Assumes nothing.
 use Prim.Native.Nat.{ℕ, _*_, _≤_, _<_}
-use mathlib.Core.Path.{_≡_, sym, _∙_}
+use mathlib.Core.Path.{_≡_, refl, sym, _∙_}
 use mathlib.Core.Bool.{true, false}
 use mathlib.Core.List.{List, _++_}
 use native.Mathlib.Nat.{pos-of-ne-zero}
 use lib.Dec.{ltb, leb}
 use lib.IntN.{ℤ}
 use lib.ListN.{length, drop}
-use borrow.Author.Tests.{lt-ltb, lt-leb, le-leb}
+use borrow.Author.Tests.{ne-eqb, lt-ltb, lt-leb, le-leb}
+use Rattle.arith.proofs.Answers.{of-answer}
 use Rattle.section.specs.declared.Section.{Section}
-use Rattle.section.specs.Refusal.{within}
+use Rattle.section.specs.Refusal.{within, sectionRefusal}
 use Rattle.law.specs.declared.LawAnswer.{LawAnswer}
 use Rattle.law.specs.Law.{lawAnswer}
 use Rattle.law.proofs.Answers.{number, some-refusal, no-refusal}
@@ -68,3 +69,20 @@ module _ (s : Section) (a : LawAnswer) (is : a ≡ lawAnswer s) where
             let z = no-refusal s is ok in
             let f = le-leb (3 * length (listed s)) (length row) (rw count at h) in
             (rw (z, there, f, count), rw (z, there, f))
+
+-- ---- what the list's answer and its row tell
+module _ (s : Section) (room : ℕ) {a : Listing} (is : a ≡ listAnswer s room) where
+  pub list-number : a .refusal ≡ listRefusal s room
+  unfolding listAnswer listRefusal depthsRefusal
+  list-number = rw is (of-answer (λ (x : Listing). x .refusal ≡ listRefusal s room) (sectionRefusal s) _ unlisted (λ e. refl) refused)
+    where
+      refused : (sectionRefusal s ≡ 0 → ⊥) → sectionRefusal s ≡ listRefusal s room
+      refused f = let e = ne-eqb (sectionRefusal s) 0 f in rw (e, e)
+
+  pub list-count : sectionRefusal s ≡ 0 → a .count ≡ length (listed s)
+  unfolding listAnswer
+  list-count ok = rw (is, ok)
+
+pub row-written : (s : Section) (row : List ℤ) → listRefusal s (length row) ≡ 0 → rowAfter s row ≡ words (listed s) ++ drop (3 * length (listed s)) row
+unfolding rowAfter
+row-written s row none = rw none

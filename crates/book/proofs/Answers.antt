@@ -2,8 +2,7 @@
 use Prim.Native.Nat.{ℕ}
 use mathlib.Core.Path.{_≡_, refl, sym, ap, _∙_}
 use mathlib.Core.List.{List}
-use borrow.Author.Tests.{ne-eqb}
-use Rattle.arith.proofs.Answers.{bears}
+use Rattle.arith.proofs.Answers.{bears, refuses}
 use Rattle.section.specs.declared.Section.{Section}
 use Rattle.book.specs.declared.BookAnswer.{BookAnswer}
 use Rattle.book.specs.declared.SectionAnswer.{SectionAnswer}
@@ -33,7 +32,7 @@ module _ {X : Type 0} (r : List ℕ) (answered : Section → X) (refused : ℕ �
   number = ap (λ (x : SectionAnswer). x .refusal) is ∙ answer-refusal r
 
   pub refuses-record : (a .refusal ≡ 0 → ⊥) → refused (a .refusal) ≡ ofRecord r answered refused
-  refuses-record h = rw (ne-eqb (recordRefusal r) 0 (λ e. h (number ∙ e)), number)
+  refuses-record h = refuses _ refused number h
 
   pub answers-record : a .refusal ≡ 0 → answered (a .section) ≡ ofRecord r answered refused
   answers-record h =

@@ -8,8 +8,8 @@ use native.Mathlib.Omega.{arith}
 use lib.Dec.{eqb}
 use lib.ListN.{length, getD, take, drop, length-take, length-drop}
 use lib.Seq.{getD-take, getD-drop}
-use borrow.Author.Tests.{eq-eqb, ne-eqb, le-leb}
-use Rattle.arith.proofs.Answers.{of-answer}
+use borrow.Author.Tests.{eq-eqb, le-leb}
+use Rattle.arith.proofs.Answers.{of-answer, refuses}
 use Rattle.section.specs.Refusal.{line}
 use Rattle.book.specs.declared.RecordAnswer.{RecordAnswer}
 use Rattle.book.specs.Record.{le16At, sizeAt, recordRight, recordRefusal}
@@ -47,7 +47,7 @@ module _ (s : List ℕ) (i : ℕ) where
   -- ---- the empty part
   none-refused : (askedRefusal s i ≡ 0 → ⊥) → recordOf s i ≡ []
   unfolding recordOf
-  none-refused f = rw (ne-eqb _ 0 f)
+  none-refused f = sym (refuses _ (λ number. []) refl f)
 
   pub empty-exactly : (recordOf s i ≡ []) ↔ (askedRefusal s i ≡ 0 → ⊥)
   empty-exactly = (λ e ok. let n = part-shows ok .size in let z = ap length e in omega arith, none-refused)

@@ -1,14 +1,14 @@
 -- The list of depths as the program reads it back: its refusal, its count, its words. Assumes nothing.
 use Prim.Native.Nat.{ℕ, _+_, _*_, _-_, _≤_, _<_}
-use mathlib.Core.Path.{_≡_, refl, sym, ap, _∙_}
+use mathlib.Core.Path.{_≡_, sym, ap, _∙_}
 use mathlib.Core.Bool.{true}
 use mathlib.Core.List.{List, _++_}
 use native.Mathlib.Omega.{arith}
-use lib.Dec.{ltb, leb, eqb}
+use lib.Dec.{ltb, leb}
 use lib.IntN.{ℤ, pos}
 use lib.ListN.{length, getD, drop, length-append}
-use borrow.Author.Tests.{ltb-true, le-leb, ne-eqb}
-use Rattle.arith.proofs.Answers.{of-answer}
+use borrow.Author.Tests.{ltb-true, le-leb}
+use Rattle.arith.proofs.Answers.{refuses}
 use Rattle.section.specs.declared.Section.{Section}
 use Rattle.section.specs.Refusal.{line, sectionRefusal}
 use Rattle.section.proofs.Lines.{passed, none-of, only-first}
@@ -16,7 +16,8 @@ use Rattle.section.proofs.Accepted.{accepted}
 use Rattle.balance.specs.declared.Listing.{Listing}
 use Rattle.balance.specs.Forces.{moment}
 use Rattle.balance.specs.Depths.{lastDepth, kindAt, listed, words}
-use Rattle.balance.specs.Answers.{depthsRefusal, listRefusal, unlisted, listAnswer, rowAfter}
+use Rattle.balance.specs.Answers.{depthsRefusal, listRefusal, listAnswer, rowAfter}
+use Rattle.balance.proofs.Answers.{list-number, list-count, row-written}
 use Rattle.balance.proofs.Listed.{count-most, words-length, wordsOf, word-of}
 use Rattle.booklines.specs.Line.{leastTo, entryOf, noBending, bendingAnswer}
 use Rattle.booklines.proofs.Least.{least-alike}
@@ -31,17 +32,11 @@ no-fifteen s room h = only-first (depthsRefusal s) _ (λ e. rw (le-leb (3 * leng
 
 module _ (s : Section) (row : List ℤ) (room : 3000 ≤ length row) {a : Listing} (is : a ≡ listAnswer s (length row)) where
   number : a .refusal ≡ depthsRefusal s
-  unfolding listAnswer listRefusal depthsRefusal
-  number =
-      rw is (of-answer (λ (x : Listing). x .refusal ≡ listRefusal s (length row)) (sectionRefusal s) _ unlisted (λ e. refl) refused)
-      ∙ no-fifteen s (length row) room
-    where
-      refused : (sectionRefusal s ≡ 0 → ⊥) → sectionRefusal s ≡ listRefusal s (length row)
-      refused f = let e = ne-eqb (sectionRefusal s) 0 f in rw (e, e)
+  number = list-number s (length row) is ∙ no-fifteen s (length row) room
 
   pub refuses-bending : (a .refusal ≡ 0 → ⊥) → noBending (a .refusal) ≡ bendingAnswer s
   unfolding bendingAnswer
-  refuses-bending h = rw (number, ne-eqb (depthsRefusal s) 0 (λ e. h (number ∙ e)))
+  refuses-bending h = refuses _ noBending number h
 
   module _ (ok : a .refusal ≡ 0) where
     none : depthsRefusal s ≡ 0
@@ -55,13 +50,11 @@ module _ (s : Section) (row : List ℤ) (room : 3000 ≤ length row) {a : Listin
     some = ltb-true 0 _ (passed (ltb 0 (length (listed s))) 13 0 (lines .1) .0)
 
     count : a .count ≡ length (listed s)
-    unfolding listAnswer
-    count = rw (is, lines .0)
+    count = list-count s (length row) is (lines .0)
 
     module _ (after : List ℤ) (then : after ≡ rowAfter s row) where
       written : after ≡ words (listed s) ++ drop (3 * length (listed s)) row
-      unfolding rowAfter
-      written = rw (then, no-fifteen s (length row) room ∙ none)
+      written = then ∙ row-written s row (no-fifteen s (length row) room ∙ none)
 
       pub has-moments : (0 < a .count) × (3 * a .count ≤ length after)
       has-moments =

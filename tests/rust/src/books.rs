@@ -3,7 +3,7 @@ mod faults;
 pub mod tried;
 
 use crate::random::Random;
-use crate::rules::{self, Layer, Section};
+use crate::rules;
 use crate::sections;
 use std::collections::BTreeSet;
 use std::iter::repeat_with;
@@ -61,30 +61,7 @@ impl Parts {
 
 /// Document 01's book, and what the book program prints of it.
 pub fn sample() -> Parts {
-    let plate = Section {
-        b: 1000,
-        h: 100,
-        fck: 30,
-        fyk: 500,
-        feq2: 3700,
-        feq3: 4500,
-        load: 0,
-        asw: 0,
-        spacing: 0,
-        layers: vec![],
-    };
-    let beam = Section {
-        b: 400,
-        h: 600,
-        feq2: 2000,
-        feq3: 2000,
-        load: 10_000_000,
-        layers: vec![Layer {
-            depth: 540,
-            area: 3216,
-        }],
-        ..plate
-    };
+    let [plate, beam] = sections::figures();
     Parts::of(vec![plate.record(), beam.record()])
 }
 

@@ -1,7 +1,36 @@
-//! Random sections and records, for the tests of what is asked of a record.
+//! Document 01's sections, and random sections and records, for the tests of what is asked of a record.
 use crate::random::Random;
 use crate::rules::{self, Layer, Section, TABLE};
 use std::collections::BTreeSet;
+
+/// The plate and the beam of document 01's book.
+pub fn figures() -> [Section; 2] {
+    let plate = Section {
+        b: 1000,
+        h: 100,
+        fck: 30,
+        fyk: 500,
+        feq2: 3700,
+        feq3: 4500,
+        load: 0,
+        asw: 0,
+        spacing: 0,
+        layers: vec![],
+    };
+    let beam = Section {
+        b: 400,
+        h: 600,
+        feq2: 2000,
+        feq3: 2000,
+        load: 10_000_000,
+        layers: vec![Layer {
+            depth: 540,
+            area: 3216,
+        }],
+        ..plate
+    };
+    [plate, beam]
+}
 
 /// A number of a range, one time in four an end of it: there a wrong comparison shows.
 fn number(random: &mut Random, low: u16, high: u16) -> u16 {

@@ -1,7 +1,7 @@
 //! `fw_shear` held to document 01's shear.
 use fordwhistle_tests::held::Held;
 use fordwhistle_tests::random::Random;
-use fordwhistle_tests::rules::{self, Amount, Layer, Section, Shear};
+use fordwhistle_tests::rules::{self, Amount, Section, Shear};
 use fordwhistle_tests::sections;
 use std::cmp::Ordering;
 use std::collections::BTreeSet;
@@ -35,21 +35,7 @@ fn the_face_gives_the_rules_shear() {
 
 #[test]
 fn the_rules_give_the_figures() {
-    let beam = Section {
-        b: 400,
-        h: 600,
-        fck: 30,
-        fyk: 500,
-        feq2: 2000,
-        feq3: 2000,
-        load: 10_000_000,
-        asw: 0,
-        spacing: 0,
-        layers: vec![Layer {
-            depth: 540,
-            area: 3216,
-        }],
-    };
+    let [_, beam] = sections::figures();
     let Shear { k, c, .. } = Shear::of(&beam);
     let answer = Amount {
         refusal: 0,

@@ -1,17 +1,15 @@
 -- `book`: refused or counted, by the rule's number. Assumes nothing.
 use mathlib.Core.Path.{_≡_, sym, _∙_}
-use borrow.Author.Tests.{ne-eqb}
 use borrow.Author.Needs.{needs}
-use Rattle.book.specs.Book.{bookRefusal, bookAnswer}
+use Rattle.arith.proofs.Answers.{refuses}
+use Rattle.book.specs.Book.{bookRefusal, noBook, bookAnswer}
 use Rattle.book.proofs.Good.{good}
 use Rattle.book.proofs.book.Statement.{statement}
 use Rattle.book.proofs.book.Tie as tie
 
 returns : tie.Need-returns
 unfolding bookAnswer
-returns c =
-    let n = c .before .book-refusal in
-    rw (n .ensures, ne-eqb (bookRefusal _) 0 (λ e. c .if1 .taken (n .ensures ∙ e)))
+returns c = refuses _ noBook (c .before .book-refusal .ensures) (c .if1 .taken)
 
 none : (c : tie.Else1) → bookRefusal (c .before .before .before .args .bytes .now) ≡ 0
 none c = sym (c .before .book-refusal .ensures) ∙ c .if1 .left

@@ -1,8 +1,8 @@
 -- `record_place`: refused or found, by the rule's number. Assumes nothing.
 use mathlib.Core.Path.{_≡_, sym, _∙_}
-use borrow.Author.Tests.{ne-eqb}
 use borrow.Author.Needs.{needs}
-use Rattle.book.specs.Book.{askedRefusal, recordAnswer}
+use Rattle.arith.proofs.Answers.{refuses}
+use Rattle.book.specs.Book.{askedRefusal, noRecord, recordAnswer}
 use Rattle.book.specs.Code.{Sized}
 use Rattle.book.proofs.Parts.{book-good}
 use Rattle.book.proofs.record_place.Statement.{statement}
@@ -10,9 +10,7 @@ use Rattle.book.proofs.record_place.Tie as tie
 
 returns : tie.Need-returns
 unfolding recordAnswer
-returns c =
-    let n = c .before .asked-refusal in
-    rw (n .ensures, ne-eqb (askedRefusal _ _) 0 (λ e. c .if1 .taken (n .ensures ∙ e)))
+returns c = refuses _ noRecord (c .before .asked-refusal .ensures) (c .if1 .taken)
 
 none : (c : tie.Else1) → askedRefusal (c .before .before .before .args .bytes .now) (c .before .before .before .args .number) ≡ 0
 none c = sym (c .before .asked-refusal .ensures) ∙ c .if1 .left
