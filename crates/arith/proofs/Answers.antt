@@ -20,3 +20,10 @@ bears f n answered refused a r = of-answer (λ x. f x ≡ n) n answered refused 
 -- it is what goes with a number that is not 0
 pub refuses : {X : Type 0} {n k : ℕ} (answered : X) (refused : ℕ → X) → k ≡ n → (k ≡ 0 → ⊥) → refused k ≡ unlessRefused n answered refused
 refuses {n = n} answered refused is some = rw (is, ne-eqb n 0 (λ e. some (is ∙ e)))
+
+-- where it bears no number, it is what is answered
+pub granted :
+    {X : Type 0} (f : X → ℕ) (n : ℕ) (answered : X) (refused : ℕ → X) → f (refused n) ≡ n
+    → {x : X} → x ≡ unlessRefused n answered refused → f x ≡ 0 → (n ≡ 0) × (x ≡ answered)
+granted f n answered refused r is =
+    rw is (of-answer (λ x. f x ≡ 0 → (n ≡ 0) × (x ≡ answered)) n answered refused (λ e h. (e, refl)) (λ k h. absurd (k (sym r ∙ h))))

@@ -9,7 +9,8 @@ use native.Mathlib.Omega.{arith}
 use lib.Dec.{T, ltb, leb, ltb→lt, nltb→le, lt→ltb, le→leb, leb→le, leb·suc-suc}
 use lib.IntN.{ℤ, pos, negsuc, _+ℤ_, _-ℤ_, _*ℤ_, negℤ, subℕ, *ℤ-zero, *ℤ-negsuc, negℤ-negℤ, natAbs}
 use lib.Ieee.Bits.{is-true}
-use lib.Signed.{nonNeg, ltZ, leZ, _≤ℤ_, _<ℤ_, ltZ-yes, ltZ-no}
+use lib.Signed.{nonNeg, ltZ, leZ, _≤ℤ_, _<ℤ_, leZ-yes, ltZ-yes, ltZ-no}
+use Rattle.arith.proofs.Tests.{Decides}
 
 -- ---- the two parts of an integer
 abbrev pub up : ℤ → ℕ
@@ -176,6 +177,9 @@ test-lt e = ltZ-yes (subst T (sym e) tt)
 
 pub test-le : {x y : ℤ} → ltZ x y ≡ false → y ≤ℤ x
 test-le e = ltZ-no (subst (λ (b : Bool). T (not b)) (sym e) tt)
+
+pub is-leZ : (x y : ℤ) → Decides (leZ x y) (x ≤ℤ y)
+is-leZ x y = (λ e. leZ-yes (subst T (sym e) tt), λ h. is-true _ (h .le))
 
 pub not-below : (z : ℤ) → ltZ z (pos 0) ≡ false → T (nonNeg z)
 not-below (pos n) e = tt

@@ -1,19 +1,23 @@
 -- The answers of `imbalance`, `moment` and `depths`, from that of `Law::of`; and what that of `depths` tells. Assumes nothing.
 use Prim.Native.Nat.{ℕ, _*_, _≤_, _<_}
-use mathlib.Core.Path.{_≡_, refl, sym, _∙_}
-use mathlib.Core.Bool.{true, false}
+use mathlib.Core.Path.{_≡_, refl, sym, ap, _∙_}
+use mathlib.Core.Bool.{Bool, true, false}
 use mathlib.Core.List.{List, _++_}
 use native.Mathlib.Nat.{pos-of-ne-zero}
+use native.Mathlib.Omega.{arith}
 use lib.Dec.{ltb, leb}
 use lib.IntN.{ℤ}
 use lib.ListN.{length, drop}
-use borrow.Author.Tests.{ne-eqb, lt-ltb, lt-leb, le-leb}
-use Rattle.arith.proofs.Answers.{of-answer}
+use borrow.Author.Tests.{ltb-false, ne-eqb, lt-ltb, lt-leb, le-leb}
+use Rattle.arith.proofs.Answers.{of-answer, granted}
 use Rattle.section.specs.declared.Section.{Section}
-use Rattle.section.specs.Refusal.{within, sectionRefusal}
+use Rattle.section.specs.Refusal.{line, firstOf, within, sectionRefusal}
+use Rattle.section.specs.Accepted.{Between}
+use Rattle.section.proofs.Lines.{passes, none-of, between}
 use Rattle.law.specs.declared.LawAnswer.{LawAnswer}
 use Rattle.law.specs.Law.{lawAnswer}
 use Rattle.law.proofs.Answers.{number, some-refusal, no-refusal}
+use Rattle.balance.specs.declared.Amount.{Amount}
 use Rattle.balance.specs.declared.Listing.{Listing}
 use Rattle.balance.specs.Depths.{lastDepth, listed, words}
 use Rattle.balance.specs.Answers.{gridRefusal, answered, noAmount, amountAnswer, depthsRefusal, listRefusal, unlisted, listAnswer, rowAfter}
@@ -70,6 +74,21 @@ module _ (s : Section) (a : LawAnswer) (is : a ≡ lawAnswer s) where
             let f = le-leb (3 * length (listed s)) (length row) (rw count at h) in
             (rw (z, there, f, count), rw (z, there, f))
 
+-- ---- what an amount that is not refused tells
+module _ (s : Section) (x : ℕ) (z : ℤ) {a : Amount} (is : a ≡ amountAnswer s x z) (ok : a .refusal ≡ 0) where
+  answers-amount : (gridRefusal s x ≡ 0) × (a ≡ answered z)
+  unfolding amountAnswer
+  answers-amount = granted (λ (b : Amount). b .refusal) (gridRefusal s x) (answered z) noAmount refl is ok
+
+  pub amount-is : a .amount ≡ z
+  amount-is = ap (λ (b : Amount). b .amount) (answers-amount .1)
+
+  pub on-grid : (sectionRefusal s ≡ 0) × Between 1 (lastDepth s) x
+  unfolding gridRefusal
+  on-grid =
+      let k = none-of (sectionRefusal s) _ (answers-amount .0) in
+      (k .0, passes 17 0 (between 1 (lastDepth s) x) (k .1) .0)
+
 -- ---- what the list's answer and its row tell
 module _ (s : Section) (room : ℕ) {a : Listing} (is : a ≡ listAnswer s room) where
   pub list-number : a .refusal ≡ listRefusal s room
@@ -82,6 +101,26 @@ module _ (s : Section) (room : ℕ) {a : Listing} (is : a ≡ listAnswer s room)
   pub list-count : sectionRefusal s ≡ 0 → a .count ≡ length (listed s)
   unfolding listAnswer
   list-count ok = rw (is, ok)
+
+  -- beside 15 too; beside any other refusal there is none
+  pub list-needed : (sectionRefusal s ≡ 15 → ⊥) → a .refusal ≡ 15 → a .count ≡ length (listed s)
+  unfolding listAnswer
+  list-needed other =
+      rw is
+      (of-answer (λ (x : Listing). x .refusal ≡ 15 → x .count ≡ length (listed s)) (sectionRefusal s) _ unlisted (λ e h. refl)
+      (λ f h. absurd (other h)))
+
+  pub list-none : (a .refusal ≡ 0 → ⊥) → (a .refusal ≡ 15 → ⊥) → a .count ≡ 0
+  unfolding listAnswer listRefusal depthsRefusal
+  list-none =
+      rw is
+      (of-answer (λ (x : Listing). (x .refusal ≡ 0 → ⊥) → (x .refusal ≡ 15 → ⊥) → x .count ≡ 0) (sectionRefusal s) _ unlisted
+      (λ e. rw e (pick (ltb 0 (length (listed s))) refl (leb (3 * length (listed s)) room))) (λ f h k. refl))
+    where
+      pick : (t : Bool) → ltb 0 (length (listed s)) ≡ t → (u : Bool) → (firstOf (line t 14 0) (line u 15 0) ≡ 0 → ⊥) → (firstOf (line t 14 0) (line u 15 0) ≡ 15 → ⊥) → length (listed s) ≡ 0
+      pick true e true h k = absurd (h refl)
+      pick true e false h k = absurd (k refl)
+      pick false e u h k = omega (arith, ltb-false 0 (length (listed s)) e)
 
 pub row-written : (s : Section) (row : List ℤ) → listRefusal s (length row) ≡ 0 → rowAfter s row ≡ words (listed s) ++ drop (3 * length (listed s)) row
 unfolding rowAfter

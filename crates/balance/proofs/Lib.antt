@@ -8,3 +8,4 @@ pub mod Rows
 pub mod Answers
 pub mod Rounded
 pub mod Theorems
+pub mod Shown

@@ -12,7 +12,8 @@ use lib.Dec.{eqb}
 use lib.IntN.{ℤ, pos}
 use lib.ListN.{length, getD, length-append}
 use borrow.Author.Tests.{eqb-false, eq-eqb, ne-eqb}
-use Rattle.balance.specs.Depths.{Entry, entryAt, listTo, words, Rising}
+use Rattle.arith.specs.Sums.{sumN}
+use Rattle.balance.specs.Depths.{Entry, entryOf, entryAt, listTo, words, Rising}
 
 -- one entry more, or none, behind all others and deeper than they
 rising-next :
@@ -89,18 +90,23 @@ module _ (k : ℕ → ℕ) (m : ℕ → ℤ) where
       ⊎-elim (λ e. rw e (omega arith)) (λ i. omega (arith, count-grows x n (omega arith), length-append (listTo k m n) (entryAt k m (suc n))))
       (NatL.eq-or-lt-of-le h)
 
-  -- no list is longer than the grid
-  entry-most : (x : ℕ) → length (entryAt k m x) ≤ 1
-  entry-most x = pick (eqb (k x) 0)
+  -- as long as there are depths that have a kind, and never longer than the grid
+  entry-count : (x : ℕ) → (length (entryAt k m x) ≡ cond (eqb (k x) 0) 0 1) × (length (entryAt k m x) ≤ 1)
+  entry-count x = pick (eqb (k x) 0)
     where
-      pick : (t : Bool) → length (cond t [] (entry x ∷ [])) ≤ 1
-      pick true = omega arith
-      pick false = omega arith
+      pick : (t : Bool) → (length (cond t [] (entry x ∷ [])) ≡ cond t 0 1) × (length (cond t [] (entry x ∷ [])) ≤ 1)
+      pick true = (refl, omega arith)
+      pick false = (refl, omega arith)
+
+  pub count-kinds : (n : ℕ) → length (listTo k m n) ≡ sumN n (λ i. cond (eqb (k (i + 1)) 0) 0 1)
+  unfolding listTo sumN
+  count-kinds zero = refl
+  count-kinds (suc n) = length-append (listTo k m n) (entryAt k m (suc n)) ∙ rw (count-kinds n, add-one n, entry-count (suc n) .0)
 
   pub count-most : (n : ℕ) → length (listTo k m n) ≤ n
   unfolding listTo
   count-most zero = omega arith
-  count-most (suc n) = omega (arith, count-most n, entry-most (suc n), length-append (listTo k m n) (entryAt k m (suc n)))
+  count-most (suc n) = omega (arith, count-most n, entry-count (suc n) .1, length-append (listTo k m n) (entryAt k m (suc n)))
 
 -- ---- its words
 words-append : (a b : List Entry) → words (a ++ b) ≡ words a ++ words b
@@ -124,14 +130,14 @@ abbrev pub wordsOf : Entry → List ℤ
 wordsOf e = pos (e .depth) ∷ pos (e .kind) ∷ e .moment ∷ []
 
 pub word-of :
-    (es : List Entry) (rest : List ℤ) (none : Entry) (j r : ℕ)
-    → j < length es → r < 3 → getD (words es ++ rest) (3 * j + r) (pos 0) ≡ getD (wordsOf (getD es j none)) r (pos 0)
+    (es : List Entry) (rest : List ℤ) (j r : ℕ)
+    → j < length es → r < 3 → getD (words es ++ rest) (3 * j + r) (pos 0) ≡ getD (wordsOf (entryOf es j)) r (pos 0)
 unfolding words
-word-of [] rest none j r h l = absurd (omega arith)
-word-of (e ∷ es) rest none zero zero h l = refl
-word-of (e ∷ es) rest none zero (suc zero) h l = refl
-word-of (e ∷ es) rest none zero (suc (suc zero)) h l = refl
-word-of (e ∷ es) rest none zero (suc (suc (suc r))) h l = absurd (omega arith)
-word-of (e ∷ es) rest none (suc j) r h l =
+word-of [] rest j r h l = absurd (omega arith)
+word-of (e ∷ es) rest zero zero h l = refl
+word-of (e ∷ es) rest zero (suc zero) h l = refl
+word-of (e ∷ es) rest zero (suc (suc zero)) h l = refl
+word-of (e ∷ es) rest zero (suc (suc (suc r))) h l = absurd (omega arith)
+word-of (e ∷ es) rest (suc j) r h l =
     let i : 3 * suc j + r ≡ suc (suc (suc (3 * j + r))) = omega arith in
-    rw i (word-of es rest none j r (omega arith) l)
+    rw i (word-of es rest j r (omega arith) l)

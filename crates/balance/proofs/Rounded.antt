@@ -113,7 +113,7 @@ module _ (l : Law) (s : Section) (x : ℕ) where
 module _ {s : Section} (a : Accepted s) where
   pub area-positive : 0 < area s
   unfolding area
-  area-positive = omega (arith, sum-positive (s .h) (widthAt s) (omega (arith, a .height .0)) (λ i h. omega (arith, a .width .0)))
+  area-positive = omega (arith, sum-positive (s .h) (widthAt s) (omega (arith, a .sizes .1 .0)) (λ i h. omega (arith, a .sizes .0 .0)))
 
   module _ {x : ℕ} (from : 1 ≤ x) where
     pub common-positive : 0 < common s x
@@ -125,7 +125,7 @@ module _ {s : Section} (a : Accepted s) where
 
     pub moment-within : Within (common s x) (exactMoment s x) (moment s x) (area s * s .h)
     unfolding exactMoment moment
-    moment-within = moments-close (lawOf s) s x common-positive (λ j h. omega (arith, a .layer j h .inside))
+    moment-within = moments-close (lawOf s) s x common-positive (λ j h. omega (arith, a .bars .0 .each j h .inside))
 
     pub above : ClearlyAbove s x → pos 0 <ℤ imbalance s x
     above = within-above imbalance-within area-positive

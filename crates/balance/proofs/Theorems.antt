@@ -1,15 +1,16 @@
 -- What is said of the balance of a section: the list, its refusal, and how far what is rounded lies from what is exact. Assumes nothing.
 use Prim.Native.Nat.{ℕ, suc, _+_, _*_, _/_, _≤_, _<_, _∣_}
 use mathlib.Core.Path.{_≡_, refl, sym, ap, _∙_}
-use mathlib.Core.Bool.{Bool, true, false}
+use mathlib.Core.Bool.{Bool, true, false, false≢true}
 use mathlib.Core.Logic.{_⊎_, ⊎-elim, _↔_, Iff·trans}
-use mathlib.Core.List.{List, [], _∷_, List·Memᴰ, Memᴰ·cast}
+use mathlib.Core.List.{List, [], _∷_, List·Memᴰ, List·Memᴰ·head, List·Memᴰ·not-nil, Memᴰ·cast}
 use native.Mathlib.Nat as NatL
 use native.Mathlib.Omega.{arith}
 use lib.Dec.{ltb, leb}
 use lib.IntN.{ℤ, pos, natAbs, _-ℤ_, _*ℤ_}
 use lib.ListN.{length}
 use borrow.Author.Tests.{lt-ltb}
+use Rattle.arith.proofs.Tests.{Decides, is-as}
 use Rattle.section.specs.declared.Section.{Section}
 use Rattle.section.specs.Refusal.{line, firstOf, sectionRefusal}
 use Rattle.section.proofs.Accepted.{accepted}
@@ -17,7 +18,7 @@ use Rattle.law.specs.Law.{lawOf}
 use Rattle.law.specs.Stress.{Stress, signed}
 use Rattle.law.proofs.Sides.{signed-scale}
 use Rattle.balance.specs.Forces.{area, stripStress, barStress, imbalance, moment}
-use Rattle.balance.specs.Depths.{Entry, kindAt, lastDepth, listed, Balances, Rising}
+use Rattle.balance.specs.Depths.{Entry, kindAt, lastDepth, listed, Balances, SomeDepth, Rising}
 use Rattle.balance.specs.Exact.{exactOver, SameOver, common, exactImbalance, exactMoment, ClearlyAbove, ClearlyBelow}
 use Rattle.balance.specs.Answers.{depthsRefusal, listRefusal}
 use Rattle.balance.proofs.Listed.{list-only, list-all, list-rising, list-empty, empty-list}
@@ -45,6 +46,13 @@ listed-rising s = list-rising (kindAt s) (moment s) (lastDepth s)
 
 pub none-listed : (s : Section) → (listed s ≡ []) ↔ ((x : ℕ) → 1 ≤ x → x ≤ lastDepth s → kindAt s x ≡ 0)
 none-listed s = (list-empty (kindAt s) (moment s) (lastDepth s), empty-list (kindAt s) (moment s) (lastDepth s))
+
+in-first : (es : List Entry) → Decides (ltb 0 (length es)) ((e : Entry) × List·Memᴰ e es)
+in-first [] = (λ e. absurd (false≢true e), λ w. absurd (List·Memᴰ·not-nil (w .1)))
+in-first (e ∷ es) = (λ t. (e, List·Memᴰ·head refl), λ w. lt-ltb 0 (length (e ∷ es)) (omega arith))
+
+pub some-depth : (s : Section) → Decides (ltb 0 (length (listed s))) (SomeDepth s)
+some-depth s = is-as (in-first (listed s)) (λ w. (w .0, listed-exactly s (w .0) .0 (w .1)), λ w. (w .0, listed-exactly s (w .0) .1 (w .1)))
 
 fourteen-where-empty : (es : List Entry) (rest : ℕ) → (rest ≡ 14 → ⊥) → (firstOf (line (ltb 0 (length es)) 14 0) rest ≡ 14) ↔ (es ≡ [])
 fourteen-where-empty [] rest h = (λ e. refl, λ e. refl)
@@ -95,7 +103,7 @@ pair-listed s x ok from to k =
     let two = kind-two s x to (⊎-elim (λ p. falls (above a from (p .0)) (below a next (p .1))) (λ p. rises (below a from (p .0)) (above a next (p .1))) k) in
     listed-as s x 1 from (omega arith) two
 
--- ---- 4. a depth whose imbalance is zero is listed, the last depth too; and each with its own moment
+-- ---- 4. a depth whose imbalance is zero is listed, the last depth too
 pub zero-listed :
     (s : Section) (x : ℕ) → 1 ≤ x → x ≤ lastDepth s → imbalance s x ≡ pos 0
     → List·Memᴰ (record { depth = x; kind = 1; moment = moment s x }) (listed s)
@@ -104,7 +112,4 @@ zero-listed s x from to e = listed-as s x 0 from to (kind-one s x e)
 pub last-zero-listed :
     (s : Section) → sectionRefusal s ≡ 0 → imbalance s (lastDepth s) ≡ pos 0
     → List·Memᴰ (record { depth = lastDepth s; kind = 1; moment = moment s (lastDepth s) }) (listed s)
-last-zero-listed s ok = zero-listed s (lastDepth s) (omega (arith, accepted s ok .height .0)) (omega arith)
-
-pub listed-moment : (s : Section) (e : Entry) → List·Memᴰ e (listed s) → e .moment ≡ moment s (e .depth)
-listed-moment s e w = listed-exactly s e .0 w .moment
+last-zero-listed s ok = zero-listed s (lastDepth s) (omega (arith, accepted s ok .sizes .1 .0)) (omega arith)

@@ -5,6 +5,7 @@ use mathlib.Core.Bool.{Bool, cond, _&&_, _||_}
 use mathlib.Core.List.{List, [], _∷_, _++_}
 use lib.Dec.{ltb, eqb}
 use lib.IntN.{ℤ, pos, natAbs}
+use lib.ListN.{getD}
 use lib.Signed.{ltZ}
 use Rattle.section.specs.declared.Section.{Section}
 use Rattle.balance.specs.Forces.{imbalance, moment}
@@ -28,6 +29,10 @@ pub record Entry : Type 0 where
   pub depth : ℕ
   pub kind : ℕ
   pub moment : ℤ
+
+-- an entry of a list, by its place
+abbrev pub entryOf : List Entry → ℕ → Entry
+entryOf es j = getD es j (record { depth = 0; kind = 0; moment = pos 0 })
 
 -- of any kinds and moments: the depths from 1 to n that have a kind, shallowest first
 abbrev pub entryAt : (ℕ → ℕ) → (ℕ → ℤ) → ℕ → List Entry
@@ -53,6 +58,10 @@ pub record Balances (s : Section) (e : Entry) : Type 0 where
   pub kind : e .kind ≡ kindAt s (e .depth)
   pub some : 0 < e .kind
   pub moment : e .moment ≡ moment s (e .depth)
+
+-- some depth balances
+abbrev pub SomeDepth : Section → Type 0
+SomeDepth s = (e : Entry) × Balances s e
 
 -- strictly ascending from above `low` on, so each once
 abbrev pub Rising : ℕ → List Entry → Type 0

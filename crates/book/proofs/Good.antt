@@ -1,4 +1,4 @@
--- A book is good exactly where 1 to 4 pass, its walk over the records turned into the table's words. Assumes nothing.
+-- A book is good exactly where 1 to 4 pass, its walk over the records turned into the table's words; and what each line decides. Assumes nothing.
 use Prim.Native.Nat.{ℕ, _+_, _*_, _<_}
 use mathlib.Core.Path.{_≡_}
 use mathlib.Core.Bool.{true}
@@ -6,37 +6,41 @@ use mathlib.Core.List.{List}
 use mathlib.Core.Logic.{_↔_}
 use lib.Dec.{ltb, leb, eqb}
 use lib.ListN.{length}
-use borrow.Author.Tests.{ltb-true, leb-true, eqb-true, le-leb, eq-eqb}
+use borrow.Author.Tests.{leb-true, eqb-true, le-leb, eq-eqb}
 use Rattle.arith.specs.Below.{allBelow}
-use Rattle.arith.proofs.Tests.{both, all-below, below-all}
-use Rattle.section.specs.Refusal.{line, within}
-use Rattle.section.proofs.Lines.{passed, none-of, from-to}
-use Rattle.book.specs.Record.{layersAt}
+use Rattle.arith.proofs.Tests.{both, all-below, below-all, Decides, is-less, is-most, is-same, is-both, is-as}
+use Rattle.section.specs.Refusal.{line}
+use Rattle.section.proofs.Lines.{passes, none-of, between}
+use Rattle.book.specs.Record.{le16At, layersAt, sizeAt, recordRight, recordRefusal}
 use Rattle.book.specs.Book.{indexOf, countOf, statedLength, letterOf, startOf, endOf, lengthRight, lettersRight, indexRight, endsRight, recordsRight, bookRefusal, askedRefusal}
-use Rattle.book.specs.Code.{Sized}
-use Rattle.book.specs.Good.{StandsIn, RecordsStand, GoodBook}
+use Rattle.book.specs.Good.{LengthStands, LettersStand, IndexStands, StandsIn, RecordsStand, GoodBook, StandsAlone}
+
+-- a lone record
+pub stands-alone : (r : List ℕ) → Decides (recordRight r) (StandsAlone r)
+unfolding recordRight
+stands-alone r =
+    is-as (is-both (is-both (is-same (length r) (sizeAt r 0)) (is-most (layersAt r 0) 8)) (is-same (le16At r 22) 0))
+    (λ p. (p .0 .0, p .0 .1, p .1), λ p. ((p .0, p .1), p .2))
+
+pub record-stands : (r : List ℕ) → (recordRefusal r ≡ 0) ↔ StandsAlone r
+unfolding recordRefusal
+record-stands r = (λ e. passes 5 0 (stands-alone r) e .0, λ a. rw (stands-alone r .1 a))
 
 module _ (s : List ℕ) where
   -- ---- line by line
-  pub length-sized : lengthRight s ≡ true → Sized s
+  pub length-stands : Decides (lengthRight s) (LengthStands s)
   unfolding lengthRight
-  length-sized e = from-to 16 65536 (length s) (both (within 16 65536 (length s)) _ e .0)
+  length-stands = is-both (between 16 65536 (length s)) (is-same (statedLength s) (length s))
 
-  length-stated : lengthRight s ≡ true → statedLength s ≡ length s
-  unfolding lengthRight
-  length-stated e = eqb-true _ _ (both (within 16 65536 (length s)) _ e .1)
-
-  letters-stand : lettersRight s ≡ true → (letterOf s 4 ≡ 66) × (letterOf s 3 ≡ 79) × (letterOf s 2 ≡ 79) × (letterOf s 1 ≡ 75)
+  pub letters-stand : Decides (lettersRight s) (LettersStand s)
   unfolding lettersRight
-  letters-stand e =
-      let k = both _ (eqb (letterOf s 1) 75) e in
-      let o = both _ (eqb (letterOf s 2) 79) (k .0) in
-      let b = both (eqb (letterOf s 4) 66) (eqb (letterOf s 3) 79) (o .0) in
-      (eqb-true _ _ (b .0), eqb-true _ _ (b .1), eqb-true _ _ (o .1), eqb-true _ _ (k .1))
+  letters-stand =
+      is-as (is-both (is-both (is-both (is-same (letterOf s 4) 66) (is-same (letterOf s 3) 79)) (is-same (letterOf s 2) 79)) (is-same (letterOf s 1) 75))
+      (λ p. (p .0 .0 .0, p .0 .0 .1, p .0 .1, p .1), λ p. (((p .0, p .1), p .2), p .3))
 
-  index-stands : indexRight s ≡ true → indexOf s + 4 * countOf s + 16 ≡ length s
+  pub index-stands : Decides (indexRight s) (IndexStands s)
   unfolding indexRight
-  index-stands e = eqb-true _ _ e
+  index-stands = is-same (indexOf s + 4 * countOf s + 16) (length s)
 
   ends-stands : (i : ℕ) → endsRight s i ≡ true → StandsIn s i
   unfolding endsRight
@@ -65,33 +69,15 @@ module _ (s : List ℕ) where
   pub good : bookRefusal s ≡ 0 → GoodBook s
   unfolding bookRefusal
   good e =
-      let p1 = passed (lengthRight s) 0 _ e in
-      let p2 = passed (lettersRight s) 1 _ (p1 .1) in
-      let p3 = passed (indexRight s) 2 _ (p2 .1) in
-      let p4 = passed (recordsRight s) 3 0 (p3 .1) in
-      record {
-        least = length-sized (p1 .0) .0;
-        most = length-sized (p1 .0) .1;
-        stated = length-stated (p1 .0);
-        letters = letters-stand (p2 .0);
-        index = index-stands (p3 .0);
-        records = records-exactly .0 (p4 .0);
-      }
+      let p1 = passes 0 _ length-stands e in
+      let p2 = passes 1 _ letters-stand (p1 .1) in
+      let p3 = passes 2 _ index-stands (p2 .1) in
+      let p4 = passes 3 0 records-exactly (p3 .1) in
+      record { sized = p1 .0; letters = p2 .0; index = p3 .0; records = p4 .0 }
 
   pub is-good : GoodBook s → bookRefusal s ≡ 0
-  unfolding bookRefusal lengthRight lettersRight indexRight
-  is-good g =
-      rw (
-        le-leb 16 (length s) (g .least),
-        le-leb (length s) 65536 (g .most),
-        eq-eqb _ _ (g .stated),
-        eq-eqb _ _ (g .letters .0),
-        eq-eqb _ _ (g .letters .1),
-        eq-eqb _ _ (g .letters .2),
-        eq-eqb _ _ (g .letters .3),
-        eq-eqb _ _ (g .index),
-        records-exactly .1 (g .records),
-      )
+  unfolding bookRefusal
+  is-good g = rw (length-stands .1 (g .sized), letters-stand .1 (g .letters), index-stands .1 (g .index), records-exactly .1 (g .records))
 
   pub good-exactly : (bookRefusal s ≡ 0) ↔ GoodBook s
   good-exactly = (good, is-good)
@@ -101,4 +87,4 @@ module _ (s : List ℕ) where
   unfolding askedRefusal
   asked i e =
       let k = none-of (bookRefusal s) (line (ltb i (countOf s)) 5 0) e in
-      (k .0, ltb-true _ _ (passed (ltb i (countOf s)) 4 0 (k .1) .0))
+      (k .0, passes 4 0 (is-less i (countOf s)) (k .1) .0)

@@ -1,29 +1,43 @@
--- What a good book is: document 01's table of refusals in its words, one by one. And what is filed in it for a record.
+-- What a good book is, and a good record by itself: document 01's table of refusals in its words, line by line. And what is filed for a record.
 use Prim.Native.Nat.{ℕ, _+_, _*_, _≤_, _<_}
 use mathlib.Core.Path.{_≡_}
 use mathlib.Core.List.{List}
 use lib.ListN.{length, getD}
-use Rattle.book.specs.Record.{layersAt, sizeAt}
+use Rattle.section.specs.Accepted.{Between}
+use Rattle.book.specs.Record.{le16At, layersAt, sizeAt}
 use Rattle.book.specs.Book.{indexOf, countOf, statedLength, letterOf, startOf, endOf}
 
--- a record of the book
+-- 1
+abbrev pub LengthStands : List ℕ → Type 0
+LengthStands s = Between 16 65536 (length s) × (statedLength s ≡ length s)
+
+-- 2
+abbrev pub LettersStand : List ℕ → Type 0
+LettersStand s = (letterOf s 4 ≡ 66) × (letterOf s 3 ≡ 79) × (letterOf s 2 ≡ 79) × (letterOf s 1 ≡ 75)
+
+-- 3
+abbrev pub IndexStands : List ℕ → Type 0
+IndexStands s = indexOf s + 4 * countOf s + 16 ≡ length s
+
+-- 4: a record of the book, and all of them, from byte 0 on
 pub record StandsIn (s : List ℕ) (i : ℕ) : Type 0 where
   pub few : layersAt s (startOf s i) ≤ 8
   pub inside : endOf s i ≤ indexOf s
   pub meets : endOf s i ≡ startOf s (i + 1)
 
--- all of them, from byte 0 on
 pub record RecordsStand (s : List ℕ) : Type 0 where
   pub first : startOf s 0 ≡ 0
   pub each : (i : ℕ) → i < countOf s → StandsIn s i
 
 pub record GoodBook (s : List ℕ) : Type 0 where
-  pub least : 16 ≤ length s
-  pub most : length s ≤ 65536
-  pub stated : statedLength s ≡ length s
-  pub letters : (letterOf s 4 ≡ 66) × (letterOf s 3 ≡ 79) × (letterOf s 2 ≡ 79) × (letterOf s 1 ≡ 75)
-  pub index : indexOf s + 4 * countOf s + 16 ≡ length s
+  pub sized : LengthStands s
+  pub letters : LettersStand s
+  pub index : IndexStands s
   pub records : RecordsStand s
+
+-- 6: a lone record
+abbrev pub StandsAlone : List ℕ → Type 0
+StandsAlone r = (length r ≡ sizeAt r 0) × (layersAt r 0 ≤ 8) × (le16At r 22 ≡ 0)
 
 -- a part shows record i: it has the record's 24 + 4m bytes, and each is the book's, from the record's place on
 pub record Shows (s : List ℕ) (i : ℕ) (part : List ℕ) : Type 0 where

@@ -15,11 +15,11 @@ use Rattle.section.proofs.Lines.{passed, none-of, only-first}
 use Rattle.section.proofs.Accepted.{accepted}
 use Rattle.balance.specs.declared.Listing.{Listing}
 use Rattle.balance.specs.Forces.{moment}
-use Rattle.balance.specs.Depths.{lastDepth, kindAt, listed, words}
+use Rattle.balance.specs.Depths.{lastDepth, kindAt, entryOf, listed, words}
 use Rattle.balance.specs.Answers.{depthsRefusal, listRefusal, listAnswer, rowAfter}
 use Rattle.balance.proofs.Answers.{list-number, list-count, row-written}
 use Rattle.balance.proofs.Listed.{count-most, words-length, wordsOf, word-of}
-use Rattle.booklines.specs.Line.{leastTo, entryOf, noBending, bendingAnswer}
+use Rattle.booklines.specs.Line.{leastTo, noBending, bendingAnswer}
 use Rattle.booklines.proofs.Least.{least-alike}
 
 -- ---- into a row that holds every list, what is refused is just what the line's bending is refused by
@@ -28,7 +28,7 @@ unfolding listRefusal depthsRefusal
 no-fifteen s room h = only-first (depthsRefusal s) _ (λ e. rw (le-leb (3 * length (listed s)) room (omega (arith, count-most (kindAt s) (moment s) (lastDepth s), high e))))
   where
     high : depthsRefusal s ≡ 0 → s .h ≤ 1000
-    high e = accepted s (none-of (sectionRefusal s) _ e .0) .height .1
+    high e = accepted s (none-of (sectionRefusal s) _ e .0) .sizes .1 .1
 
 module _ (s : Section) (row : List ℤ) (room : 3000 ≤ length row) {a : Listing} (is : a ≡ listAnswer s (length row)) where
   number : a .refusal ≡ depthsRefusal s
@@ -62,7 +62,7 @@ module _ (s : Section) (row : List ℤ) (room : 3000 ≤ length row) {a : Listin
           (some, omega (arith, length-append (words (listed s)) (drop (3 * length (listed s)) row), words-length (listed s)))
 
       word : (j r : ℕ) → j < length (listed s) → r < 3 → getD after (3 * j + r) (pos 0) ≡ getD (wordsOf (entryOf (listed s) j)) r (pos 0)
-      word j r h l = rw written (word-of (listed s) _ _ j r h l)
+      word j r h l = rw written (word-of (listed s) _ j r h l)
 
       pub bends :
           record {

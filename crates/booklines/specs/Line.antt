@@ -3,12 +3,12 @@ use Prim.Native.Nat.{ℕ, zero, suc, _-_}
 use mathlib.Core.Bool.{cond}
 use mathlib.Core.List.{List}
 use lib.IntN.{ℤ, pos}
-use lib.ListN.{length, getD}
+use lib.ListN.{length}
 use lib.Signed.{ltZ}
 use Rattle.arith.specs.Answers.{unlessRefused}
 use Rattle.section.specs.declared.Section.{Section}
 use Rattle.balance.specs.declared.Amount.{Amount}
-use Rattle.balance.specs.Depths.{Entry, listed}
+use Rattle.balance.specs.Depths.{Entry, entryOf, listed}
 use Rattle.balance.specs.Answers.{noAmount, depthsRefusal}
 use Rattle.shear.specs.Shear.{shearAnswer}
 use Rattle.book.specs.Record.{ofRecord}
@@ -24,9 +24,6 @@ leastTo f zero = f 0
 leastTo f (suc n) = lesser (leastTo f n) (f (suc n))
 
 -- ---- the list of a record's section: its refusal, its count, its first depth with its kind, the least moment listed
-abbrev pub entryOf : List Entry → ℕ → Entry
-entryOf es j = getD es j (record { depth = 0; kind = 0; moment = pos 0 })
-
 abbrev pub leastMoment : List Entry → ℤ
 leastMoment es = leastTo (λ j. entryOf es j .moment) (length es - 1)
 

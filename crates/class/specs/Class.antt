@@ -1,5 +1,5 @@
 -- Document 01, 'Class'. Strengths in kPa.
-use Prim.Native.Nat.{ℕ, _*_, max}
+use Prim.Native.Nat.{ℕ, _*_, _≤_, max}
 use mathlib.Core.Bool.{cond}
 use mathlib.Core.List.{List, [], _∷_}
 use lib.Dec.{ltb, leb}
@@ -46,6 +46,10 @@ letterOf step fr3 =
 -- 17: fR1 below 1000, then fR3 below half the step. The table prints 0.75 as 0.8: its formula fR3 ≥ 0.5 SC decides
 unfoldable pub classRefusal : ℕ → ℕ → ℕ
 classRefusal fr1 fr3 = cond (ltb fr1 1000) 17 (cond (ltb (2 * fr3) (stepOf fr1)) 17 0)
+
+-- what it asks for
+abbrev pub ClassIn : ℕ → ℕ → Type 0
+ClassIn fr1 fr3 = (1000 ≤ fr1) × (stepOf fr1 ≤ 2 * fr3)
 
 abbrev pub classed : ℕ → ℕ → ClassAnswer
 classed step letter = record { refusal = 0; step = step; letter = letter }

@@ -1,24 +1,57 @@
 -- Document 01, 'What the contracts must decide': that no second answer fits.
 use Prim.Native.Nat.{ℕ}
 use mathlib.Core.Path.{_≡_}
-use mathlib.Core.List.{List}
-use lib.IntN.{ℤ}
 use contract.Lifetimes.{Lfts}
 use denote.Triple.Clauses.{AtExit}
-use borrow.Fn.Kinds.{PK, RK, Dens, resT, endedOf, Out}
+use borrow.Fn.Kinds.{Dens, resT, endedOf}
+use Rattle.demands.specs.Contracts.{Contract}
+use Rattle.demands.specs.Contracts as Contracts
 
--- Two answers that a function's contract allows for the same arguments are one. `told` is what the contract tells a caller of an answer,
--- as the checker reads it off the source.
-abbrev pub Decided : {n : ℕ} (ps : List (PK n)) (r : RK n) → Out n ps r → Type 0
-Decided {n} ps r told =
-    (κs : Lfts n) (a : Dens κs ps) (x y : resT r κs .Denot) (e f : AtExit (endedOf n ps r) κs) → told κs a x e → told κs a y f → x ≡ y
+-- two answers that a contract allows for the same arguments are one
+abbrev pub One : {n : ℕ} → Contract n → Type 0
+One {n} c =
+    (κs : Lfts n) (a : Dens κs (c .takes)) (x y : resT (c .gives) κs .Denot) (e f : AtExit (endedOf n (c .takes) (c .gives)) κs)
+    → c .told κs a x e → c .told κs a y f → x ≡ y
 
--- and so are the rows that they leave, where the function is lent one; `row` finds it among what was lent
-abbrev pub RowDecided : {n : ℕ} (ps : List (PK n)) (r : RK n) → Out n ps r → ((κs : Lfts n) → AtExit (endedOf n ps r) κs → List ℤ) → Type 0
-RowDecided {n} ps r told row =
-    (κs : Lfts n) (a : Dens κs ps) (x y : resT r κs .Denot) (e f : AtExit (endedOf n ps r) κs) → told κs a x e → told κs a y f → row κs e ≡ row κs f
+-- and so is what is read of the answers and of what was lent: the row that is left, the bytes of the part that is handed back
+abbrev pub OneIn : {n : ℕ} {X : Type 0} (c : Contract n) → ((κs : Lfts n) → resT (c .gives) κs .Denot → AtExit (endedOf n (c .takes) (c .gives)) κs → X) → Type 0
+OneIn {n} c read =
+    (κs : Lfts n) (a : Dens κs (c .takes)) (x y : resT (c .gives) κs .Denot) (e f : AtExit (endedOf n (c .takes) (c .gives)) κs)
+    → c .told κs a x e → c .told κs a y f → read κs x e ≡ read κs y f
 
--- and so is the part of what was lent that is handed back, byte for byte
-abbrev pub PartDecided : {n : ℕ} (ps : List (PK n)) (r : RK n) → Out n ps r → ((κs : Lfts n) → resT r κs .Denot → List ℕ) → Type 0
-PartDecided {n} ps r told part =
-    (κs : Lfts n) (a : Dens κs ps) (x y : resT r κs .Denot) (e f : AtExit (endedOf n ps r) κs) → told κs a x e → told κs a y f → part κs x ≡ part κs y
+-- of each public function
+pub record Decided : Type 0 where
+  pub section-refusal : One Contracts.section-refusal
+  pub with-layer : One Contracts.with-layer
+  pub limit-depth : One Contracts.limit-depth
+  pub effective-depth : One Contracts.effective-depth
+  pub law-of : One Contracts.law-of
+  pub concrete-size : One Contracts.concrete-size
+  pub bar-size : One Contracts.bar-size
+  pub piece-at : One Contracts.piece-at
+  pub drawn-refused : One Contracts.drawn-refused
+  pub draw : One Contracts.draw
+  pub strip : One Contracts.strip
+  pub compressed : One Contracts.compressed
+  pub stretched : One Contracts.stretched
+  pub amount-refused : One Contracts.amount-refused
+  pub listing-refused : One Contracts.listing-refused
+  pub imbalance : One Contracts.imbalance
+  pub moment : One Contracts.moment
+  pub depths : One Contracts.depths
+  pub depths-row : OneIn Contracts.depths (λ κs x e. e .1 .0 .now)
+  pub shear : One Contracts.shear
+  pub book : One Contracts.book
+  pub record-place : One Contracts.record-place
+  pub record-part : OneIn Contracts.record-part (λ κs x e. x .now)
+  pub section-of : One Contracts.section-of
+  pub class : One Contracts.class
+  pub fw-book : One Contracts.fw-book
+  pub fw-record : One Contracts.fw-record
+  pub fw-class : One Contracts.fw-class
+  pub fw-draw : One Contracts.fw-draw
+  pub fw-imbalance : One Contracts.fw-imbalance
+  pub fw-moment : One Contracts.fw-moment
+  pub fw-depths : One Contracts.fw-depths
+  pub fw-depths-row : OneIn Contracts.fw-depths (λ κs x e. e .1 .0 .now)
+  pub fw-shear : One Contracts.fw-shear

@@ -11,10 +11,11 @@ use mir.Syntax.{w32}
 use mir.Val.{SFits, toZ, ofZ}
 use borrow.Author.Tests.{ltb-true, leb-true}
 use Rattle.arith.specs.Floats.{isNeg}
-use Rattle.arith.proofs.Tests.{both}
+use Rattle.arith.proofs.Tests.{both, Decides, is-both}
+use Rattle.arith.proofs.Signed.{is-leZ}
 use Rattle.arith.proofs.Machine.{read32}
 use Rattle.law.specs.Edition.{edition}
-use Rattle.drawn.specs.Drawn.{inDrawnRange}
+use Rattle.drawn.specs.Drawn.{Drawable, inDrawnRange}
 
 -- ---- its side and its size, as the machine finds them
 pub size-fits : (z : ℤ) → natAbs z ≤ 10000 → SFits w32 (pos (natAbs z))
@@ -40,3 +41,6 @@ pub drawn-size : (z : ℤ) → inDrawnRange z ≡ true → natAbs z ≤ 10000
 unfolding edition
 drawn-size (pos n) e = omega (arith, leb-true n 3500 e)
 drawn-size (negsuc k) e = omega (arith, leb-true k 9999 (both (leb k 9999) true e .0))
+
+pub drawable-is : (e : ℤ) → Decides (inDrawnRange e) (Drawable e)
+drawable-is e = is-both (is-leZ _ e) (is-leZ e _)

@@ -2,7 +2,7 @@
 use Prim.Native.Nat.{ℕ}
 use mathlib.Core.Bool.{Bool, _&&_}
 use lib.IntN.{ℤ, pos, negℤ, natAbs}
-use lib.Signed.{leZ}
+use lib.Signed.{leZ, _≤ℤ_}
 use lib.Ieee.{Float}
 use Rattle.arith.specs.Answers.{unlessRefused}
 use Rattle.arith.specs.Floats.{isNeg, whole, frac, Holds, Near}
@@ -31,6 +31,10 @@ pointAt l e = record { strain = whole e; stress = drawnStress (stressAt l e) }
 abbrev pub PointNear : Law → ℤ → Point → Type 0
 PointNear l e p = Holds (p .strain) e × Near (p .stress) (signed (stressAt l e .pulls) (stressAt l e .num)) (stressAt l e .den)
 
+-- a strain from -10000 to 3500
+abbrev pub Drawable : ℤ → Type 0
+Drawable e = (negℤ (pos (edition .drawnTension)) ≤ℤ e) × (e ≤ℤ pos (edition .drawnCompression))
+
 abbrev pub inDrawnRange : ℤ → Bool
 inDrawnRange e = leZ (negℤ (pos (edition .drawnTension))) e && leZ e (pos (edition .drawnCompression))
 
@@ -42,8 +46,11 @@ abbrev pub drawn : Point → Drawn
 drawn point = record { refusal = 0; point = point }
 
 -- plus zeros
+abbrev pub noPoint : Point
+noPoint = record { strain = whole (pos 0); stress = whole (pos 0) }
+
 abbrev pub refused : ℕ → Drawn
-refused number = record { refusal = number; point = record { strain = whole (pos 0); stress = whole (pos 0) } }
+refused number = record { refusal = number; point = noPoint }
 
 unfoldable pub drawnAnswer : Section → ℤ → Drawn
 drawnAnswer s e = unlessRefused (drawnRefusal s e) (drawn (pointAt (lawOf s) e)) refused

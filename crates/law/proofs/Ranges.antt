@@ -19,7 +19,7 @@ use Rattle.law.specs.Ranges.{LawIn}
 
 -- ---- Table 1
 pub column-in : {s : Section} → Accepted s → column (s .fck) < 7
-column-in a = omega (arith, a .concrete .1)
+column-in a = omega (arith, a .concrete .0 .1)
 
 row : (c : List ℕ) (low high n : ℕ) → allBelow 7 (λ i. leb low (getD c i 0) && leb (getD c i 0) high) ≡ true → n < 7 → (low ≤ getD c n 0) × (getD c n 0 ≤ high)
 row c low high n e h =
@@ -40,14 +40,14 @@ unfolding limitDepth
 limit-in {s} a = pick (s .count) refl
   where
     pick : (m : ℕ) → m ≡ s .count → (0 < cond (eqb m 0) (s .h) (layerAt (s .layers) (m - 1) .depth)) × (cond (eqb m 0) (s .h) (layerAt (s .layers) (m - 1) .depth) ≤ s .h)
-    pick zero e = (omega (arith, a .height .0), omega arith)
+    pick zero e = (omega (arith, a .sizes .1 .0), omega arith)
     pick (suc m) e =
-        let l = a .layer (suc m - 1) (omega arith) in
+        let l = a .bars .0 .each (suc m - 1) (omega arith) in
         rw eqb·suc-zero (l .deep, omega (arith, l .inside))
 
 pub depth-in : {s : Section} → Accepted s → (0 < effectiveDepth s) × (effectiveDepth s ≤ 1000)
 unfolding effectiveDepth
-depth-in a = (limit-in a .0, omega (arith, limit-in a .1, a .height .1))
+depth-in a = (limit-in a .0, omega (arith, limit-in a .1, a .sizes .1 .1))
 
 -- ---- the whole numbers
 pub s1-product : {s : Section} → Accepted s → (25900 * 600 ≤ 7 * flexural (s .fck) * (1600 - effectiveDepth s)) × (7 * flexural (s .fck) * (1600 - effectiveDepth s) ≤ 47600 * 1600)

@@ -59,8 +59,11 @@ lawOf s = lawBy (s .fck) (effectiveDepth s) (s .fyk) (s .feq2) (s .feq3)
 abbrev pub answered : Law → LawAnswer
 answered law = record { refusal = 0; law = law }
 
+abbrev pub noLaw : Law
+noLaw = record { fcd = 0; s1 = 0; e1 = 0; e2 = 0; s2 = 0; s3 = 0; e3 = 0; fyd = 0 }
+
 abbrev pub refused : ℕ → LawAnswer
-refused number = record { refusal = number; law = record { fcd = 0; s1 = 0; e1 = 0; e2 = 0; s2 = 0; s3 = 0; e3 = 0; fyd = 0 } }
+refused number = record { refusal = number; law = noLaw }
 
 unfoldable pub lawAnswer : Section → LawAnswer
 lawAnswer s = unlessRefused (sectionRefusal s) (answered (lawOf s)) refused

@@ -1,82 +1,112 @@
--- A section is accepted exactly where 7 to 13 pass. Assumes nothing.
-use Prim.Native.Nat.{ℕ, zero, suc, _*_, _-_, _%_, _<_}
-use mathlib.Core.Path.{_≡_, refl}
-use mathlib.Core.Bool.{Bool, true, _&&_, _||_}
+-- A section is accepted exactly where 7 to 13 pass; and what each of these lines decides. Assumes nothing.
+use Prim.Native.Nat.{ℕ, _*_, _-_, _%_, _<_}
+use mathlib.Core.Path.{_≡_, sym, _∙_}
+use mathlib.Core.Bool.{true, not, _&&_, _||_}
 use mathlib.Core.Logic.{_↔_}
 use native.Mathlib.Omega.{arith}
-use lib.Dec.{ltb, leb, eqb, eqb·suc-zero}
+use lib.Dec.{ltb, leb, eqb}
 use lib.IntN.{natAbs}
-use borrow.Author.Tests.{ltb-true, leb-true, eqb-true, lt-ltb, le-leb, eq-eqb}
-use Rattle.arith.proofs.Tests.{both}
+use borrow.Author.Tests.{not-true, le-leb}
+use Rattle.arith.proofs.Tests.{Decides, is-less, is-most, is-same, is-both, is-unless-zero, is-as}
+use Rattle.section.specs.declared.Layer.{Layer}
 use Rattle.section.specs.declared.Section.{Section}
-use Rattle.section.specs.Section.{layerAt, rise, layersRight}
-use Rattle.section.specs.Refusal.{within, inTable, midRight, sectionRefusal}
-use Rattle.section.specs.Accepted.{Accepted}
+use Rattle.section.specs.Section.{layerAt, layersOf, inRange, layersRight}
+use Rattle.section.specs.Refusal.{line, within, inTable, midRight, sectionRefusal}
+use Rattle.section.specs.Added.{taken, layerRefusal}
+use Rattle.section.specs.Accepted.{ConcreteIn, SizesIn, SteelIn, FibresIn, LoadIn, LayersIn, BarsIn, TakesLayer, StirrupsIn, Accepted}
 use Rattle.section.proofs.Layers.{few, rising}
-use Rattle.section.proofs.Rising.{each, above-next, rises}
-use Rattle.section.proofs.Lines.{passed, from-to}
+use Rattle.section.proofs.Rising.{layer-in, in-layer, each, above-next, untaken, rises, free}
+use Rattle.section.proofs.Lines.{passes, between, one-line}
 
--- a test that is asked only of a number that is not 0
-unless-zero : (n : ℕ) (t : Bool) → eqb n 0 || t ≡ true → 0 < n → t ≡ true
-unless-zero zero t e h = absurd (omega arith)
-unless-zero (suc n) t e h = rw eqb·suc-zero at e
+module _ (s : Section) where
+  -- ---- line by line
+  pub concrete-is : Decides (inTable (s .fck)) (ConcreteIn s)
+  concrete-is = is-both (between 20 50 (s .fck)) (is-same (s .fck % 5) 0)
 
-zero-unless : (n : ℕ) (t : Bool) → (0 < n → t ≡ true) → eqb n 0 || t ≡ true
-zero-unless zero t f = refl
-zero-unless (suc n) t f = rw eqb·suc-zero (f (omega arith))
+  pub sizes-are : Decides (within 50 2000 (s .b) && within 50 1000 (s .h)) (SizesIn s)
+  sizes-are = is-both (between 50 2000 (s .b)) (between 50 1000 (s .h))
 
-pub accepted : (s : Section) → sectionRefusal s ≡ 0 → Accepted s
-unfolding sectionRefusal midRight
-accepted s e =
-    let p7 = passed (inTable (s .fck)) 6 _ e in
-    let p8 = passed (within 50 2000 (s .b) && within 50 1000 (s .h)) 7 _ (p7 .1) in
-    let p9 = passed (within 400 600 (s .fyk)) 8 _ (p8 .1) in
-    let p10 = passed (leb (s .feq2) 20000 && leb (s .feq3) 20000) 9 _ (p9 .1) in
-    let p11 = passed (leb (natAbs (s .load)) 10000000) 10 _ (p10 .1) in
-    let p12 = passed (layersRight s && midRight s) 11 _ (p11 .1) in
-    let p13 = passed (eqb (s .asw) 0 || ltb 0 (s .spacing)) 12 _ (p12 .1) in
-    let q7 = both (within 20 50 (s .fck)) (eqb (s .fck % 5) 0) (p7 .0) in
-    let fck = from-to 20 50 (s .fck) (q7 .0) in
-    let q8 = both (within 50 2000 (s .b)) (within 50 1000 (s .h)) (p8 .0) in
-    let q10 = both (leb (s .feq2) 20000) (leb (s .feq3) 20000) (p10 .0) in
-    let q12 = both (layersRight s) (midRight s) (p12 .0) in
-    let r = rising s (q12 .0) in
-    record {
-      concrete = (fck .0, fck .1, eqb-true _ _ (q7 .1));
-      width = from-to 50 2000 (s .b) (q8 .0);
-      height = from-to 50 1000 (s .h) (q8 .1);
-      steel = from-to 400 600 (s .fyk) (p9 .0);
-      fibres = (leb-true _ _ (q10 .0), leb-true _ _ (q10 .1));
-      load = leb-true _ _ (p11 .0);
-      few = few s (q12 .0);
-      layer = λ j h. each (s .layers) (s .h) 0 0 (s .count) r j (omega arith) (omega arith);
-      rising = λ j h. above-next (s .layers) (s .h) 0 0 (s .count) r j (omega arith) (omega arith);
-      mid = λ h. ltb-true _ _ (unless-zero (s .count) _ (q12 .1) h);
-      stirrups = λ h. ltb-true _ _ (unless-zero (s .asw) _ (p13 .0) h);
-    }
+  pub steel-is : Decides (within 400 600 (s .fyk)) (SteelIn s)
+  steel-is = between 400 600 (s .fyk)
 
-pub accepts : (s : Section) → Accepted s → sectionRefusal s ≡ 0
-unfolding sectionRefusal layersRight midRight
-accepts s a =
-    let r = rises (s .layers) (s .h) 0 0 (s .count) (λ j h. a .layer j (omega arith)) (λ j h. a .rising j (omega arith)) (λ h. a .layer 0 h .deep) in
-    rw (
-      le-leb 20 (s .fck) (a .concrete .0),
-      le-leb (s .fck) 50 (a .concrete .1),
-      eq-eqb (s .fck % 5) 0 (a .concrete .2),
-      le-leb 50 (s .b) (a .width .0),
-      le-leb (s .b) 2000 (a .width .1),
-      le-leb 50 (s .h) (a .height .0),
-      le-leb (s .h) 1000 (a .height .1),
-      le-leb 400 (s .fyk) (a .steel .0),
-      le-leb (s .fyk) 600 (a .steel .1),
-      le-leb (s .feq2) 20000 (a .fibres .0),
-      le-leb (s .feq3) 20000 (a .fibres .1),
-      le-leb (natAbs (s .load)) 10000000 (a .load),
-      le-leb (s .count) 8 (a .few),
-      r,
-      zero-unless (s .count) (ltb (s .h) (2 * layerAt (s .layers) (s .count - 1) .depth)) (λ h. lt-ltb _ _ (a .mid h)),
-      zero-unless (s .asw) (ltb 0 (s .spacing)) (λ h. lt-ltb _ _ (a .stirrups h)),
-    )
+  pub fibres-are : Decides (leb (s .feq2) 20000 && leb (s .feq3) 20000) (FibresIn s)
+  fibres-are = is-both (is-most (s .feq2) 20000) (is-most (s .feq3) 20000)
 
-pub accepted-exactly : (s : Section) → (sectionRefusal s ≡ 0) ↔ Accepted s
-accepted-exactly s = (accepted s, accepts s)
+  pub load-is : Decides (leb (natAbs (s .load)) 10000000) (LoadIn s)
+  load-is = is-most (natAbs (s .load)) 10000000
+
+  pub layers-are : Decides (layersRight s) (LayersIn s)
+  unfolding layersRight
+  layers-are = (are, right)
+    where
+      are : layersRight s ≡ true → LayersIn s
+      are e =
+          let r = rising s e in
+          record {
+            few = few s e;
+            each = λ j h. each (s .layers) (s .h) 0 0 (s .count) r j (omega arith) (omega arith);
+            rising = λ j h. above-next (s .layers) (s .h) 0 0 (s .count) r j (omega arith) (omega arith);
+          }
+
+      right : LayersIn s → layersRight s ≡ true
+      right l =
+          let r = rises (s .layers) (s .h) 0 0 (s .count) (λ j h. l .each j (omega arith)) (λ j h. l .rising j (omega arith)) (λ h. l .each 0 h .deep) in
+          rw (le-leb (s .count) 8 (l .few), r)
+
+  pub bars-are : Decides (layersRight s && midRight s) (BarsIn s)
+  unfolding midRight
+  bars-are = is-both layers-are (is-unless-zero (s .count) (is-less (s .h) (2 * layerAt (s .layers) (s .count - 1) .depth)))
+
+  pub stirrups-are : Decides (eqb (s .asw) 0 || ltb 0 (s .spacing)) (StirrupsIn s)
+  stirrups-are = is-unless-zero (s .asw) (is-less 0 (s .spacing))
+
+  -- ---- together
+  pub accepted : sectionRefusal s ≡ 0 → Accepted s
+  unfolding sectionRefusal
+  accepted e =
+      let p7 = passes 6 _ concrete-is e in
+      let p8 = passes 7 _ sizes-are (p7 .1) in
+      let p9 = passes 8 _ steel-is (p8 .1) in
+      let p10 = passes 9 _ fibres-are (p9 .1) in
+      let p11 = passes 10 _ load-is (p10 .1) in
+      let p12 = passes 11 _ bars-are (p11 .1) in
+      let p13 = passes 12 _ stirrups-are (p12 .1) in
+      record { concrete = p7 .0; sizes = p8 .0; steel = p9 .0; fibres = p10 .0; load = p11 .0; bars = p12 .0; stirrups = p13 .0 }
+
+  pub accepts : Accepted s → sectionRefusal s ≡ 0
+  unfolding sectionRefusal
+  accepts a =
+      rw (
+        concrete-is .1 (a .concrete),
+        sizes-are .1 (a .sizes),
+        steel-is .1 (a .steel),
+        fibres-are .1 (a .fibres),
+        load-is .1 (a .load),
+        bars-are .1 (a .bars),
+        stirrups-are .1 (a .stirrups),
+      )
+
+  pub accepted-exactly : (sectionRefusal s ≡ 0) ↔ Accepted s
+  accepted-exactly = (accepted, accepts)
+
+  -- ---- 12, where a layer is added
+  module _ (l : Layer) where
+    pub layer-line : layerRefusal s l ≡ line (inRange (s .h) l && not (taken (l .depth) (layersOf s)) && ltb (s .count) 8 && layersRight s) 12 0
+    unfolding layerRefusal
+    layer-line =
+        one-line (inRange (s .h) l) _ 12 _ ∙ one-line (inRange (s .h) l && not (taken (l .depth) (layersOf s))) _ 12 _
+        ∙ one-line (inRange (s .h) l && not (taken (l .depth) (layersOf s)) && ltb (s .count) 8) _ 12 0
+
+    pub takes-layer : Decides (inRange (s .h) l && not (taken (l .depth) (layersOf s)) && ltb (s .count) 8 && layersRight s) (TakesLayer s l)
+    takes-layer =
+        is-as (is-both (is-both (is-both (layer-in (s .h) l, in-layer (s .h) l) untaken-is) (is-less (s .count) 8)) layers-are)
+        (λ p. record { layer = p .0 .0 .0; free = p .0 .0 .1; room = p .0 .1; there = p .1 }, λ t. (((t .layer, t .free), t .room), t .there))
+      where
+        untaken-is : Decides (not (taken (l .depth) (layersOf s))) ((j : ℕ) → j < s .count → l .depth ≡ layerAt (s .layers) j .depth → ⊥)
+        untaken-is = (
+          λ e j h. untaken (s .layers) (s .h) (l .depth) 0 (s .count) (not-true _ e) j (omega arith) (omega arith),
+          λ f. rw (free (s .layers) (s .h) (l .depth) 0 (s .count) (λ j k h. f j (omega arith))),
+        )
+
+    pub takes : layerRefusal s l ≡ 0 → TakesLayer s l
+    takes e = passes 11 0 takes-layer (sym layer-line ∙ e) .0

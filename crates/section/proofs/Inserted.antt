@@ -15,8 +15,8 @@ use Rattle.section.specs.declared.Section.{Section}
 use Rattle.section.specs.Section.{noLayer, layersFrom, layersOf, inRange, rise, layersRight}
 use Rattle.section.specs.Added.{taken, layerRefusal, inserted, withLayer}
 use Rattle.section.proofs.Layers.{rising}
-use Rattle.section.proofs.Rising.{layer-in}
-use Rattle.section.proofs.Lines.{takes}
+use Rattle.section.proofs.Rising.{in-layer, free}
+use Rattle.section.proofs.Accepted.{layers-are, takes}
 
 -- ---- in its place, the layer keeps the order
 module _ (h : ℕ) (l : Layer) (i : inRange h l ≡ true) where
@@ -78,5 +78,6 @@ pub added-right : (s : Section) (l : Layer) → layerRefusal s l ≡ 0 → layer
 unfolding layersRight withLayer
 added-right s l e =
     let t = takes s l e in
-    let r = inserted-rises (s .h) l (t .inside) 0 (layersOf s) (layer-in (s .h) l (t .inside) .deep) (t .free) (rising s (t .right)) in
+    let untaken = free (s .layers) (s .h) (l .depth) 0 (s .count) (λ j k h. t .free j (omega arith)) in
+    let r = inserted-rises (s .h) l (in-layer (s .h) l (t .layer)) 0 (layersOf s) (t .layer .deep) untaken (rising s (layers-are s .1 (t .there))) in
     rw (le-leb (s .count + 1) 8 (omega (arith, t .room)), layers-added s l) r

@@ -1,26 +1,23 @@
 -- Lines of the table of refusals: what one that is passed tells. Assumes nothing.
-use Prim.Native.Nat.{ℕ, zero, suc, _≤_, _<_}
+use Prim.Native.Nat.{ℕ, zero, suc}
 use mathlib.Core.Path.{_≡_, refl}
-use mathlib.Core.Bool.{Bool, true, false, not}
+use mathlib.Core.Bool.{Bool, true, false, _&&_}
 use native.Mathlib.Nat.{suc-ne-zero}
 use native.Mathlib.Omega.{arith}
-use lib.Dec.{ltb, leb, eqb·suc-zero}
-use borrow.Author.Tests.{ltb-true, leb-true, not-true}
-use Rattle.arith.proofs.Tests.{both}
-use Rattle.section.specs.declared.Layer.{Layer}
-use Rattle.section.specs.declared.Section.{Section}
-use Rattle.section.specs.Section.{layersOf, inRange, layersRight}
+use lib.Dec.{eqb·suc-zero}
+use Rattle.arith.proofs.Tests.{Decides, is-most, is-both}
 use Rattle.section.specs.Refusal.{line, firstOf, within}
-use Rattle.section.specs.Added.{taken, layerRefusal}
+use Rattle.section.specs.Accepted.{Between}
 
 pub passed : (t : Bool) (k below : ℕ) → line t (suc k) below ≡ 0 → (t ≡ true) × (below ≡ 0)
 passed true k below e = (refl, e)
 passed false k below e = absurd (omega arith)
 
-pub from-to : (low high n : ℕ) → within low high n ≡ true → (low ≤ n) × (n ≤ high)
-from-to low high n e =
-    let k = both (leb low n) (leb n high) e in
-    (leb-true low n (k .0), leb-true n high (k .1))
+pub passes : {t : Bool} {P : Type 0} (k below : ℕ) → Decides t P → line t (suc k) below ≡ 0 → P × (below ≡ 0)
+passes {t} k below d e = let p = passed t k below e in (d .0 (p .0), p .1)
+
+pub between : (low high n : ℕ) → Decides (within low high n) (Between low high n)
+between low high n = is-both (is-most low n) (is-most n high)
 
 pub none-of : (r next : ℕ) → firstOf r next ≡ 0 → (r ≡ 0) × (next ≡ 0)
 none-of zero next e = (refl, e)
@@ -34,22 +31,7 @@ pub same : (t : Bool) (k : ℕ) → line t k k ≡ k
 same true k = refl
 same false k = refl
 
--- what a section is that takes a layer
-pub record Takes (s : Section) (l : Layer) : Type 0 where
-  pub inside : inRange (s .h) l ≡ true
-  pub free : taken (l .depth) (layersOf s) ≡ false
-  pub room : s .count < 8
-  pub right : layersRight s ≡ true
-
-pub takes : (s : Section) (l : Layer) → layerRefusal s l ≡ 0 → Takes s l
-unfolding layerRefusal
-takes s l e =
-    let a = passed (inRange (s .h) l) 11 _ e in
-    let b = passed (not (taken (l .depth) (layersOf s))) 11 _ (a .1) in
-    let c = passed (ltb (s .count) 8) 11 _ (b .1) in
-    record {
-      inside = a .0;
-      free = not-true _ (b .0);
-      room = ltb-true (s .count) 8 (c .0);
-      right = passed (layersRight s) 11 0 (c .1) .0;
-    }
+-- two lines of one number are one
+pub one-line : (a b : Bool) (k below : ℕ) → line a k (line b k below) ≡ line (a && b) k below
+one-line true b k below = refl
+one-line false b k below = refl

@@ -1,17 +1,18 @@
 -- Layers that rise, place by place. Assumes nothing.
 use Prim.Native.Nat.{ℕ, zero, suc, _+_, _≤_, _<_}
 use mathlib.Core.Path.{_≡_, refl}
-use mathlib.Core.Bool.{true, _&&_}
+use mathlib.Core.Bool.{true, false, _&&_}
 use mathlib.Core.List.{List}
 use mathlib.Core.Logic.{⊎-elim}
 use native.Mathlib.Nat.{eq-or-lt-of-le}
 use native.Mathlib.Numerals.{add-one}
 use native.Mathlib.Omega.{arith}
-use lib.Dec.{ltb}
-use borrow.Author.Tests.{ltb-true, lt-ltb}
-use Rattle.arith.proofs.Tests.{both}
+use lib.Dec.{ltb, eqb}
+use borrow.Author.Tests.{ltb-true, eqb-false, lt-ltb, ne-eqb}
+use Rattle.arith.proofs.Tests.{both, neither}
 use Rattle.section.specs.declared.Layer.{Layer}
 use Rattle.section.specs.Section.{layerAt, layersFrom, inRange, rise}
+use Rattle.section.specs.Added.{taken}
 use Rattle.section.specs.Accepted.{LayerIn}
 
 pub layer-in : (h : ℕ) (l : Layer) → inRange h l ≡ true → LayerIn h l
@@ -50,6 +51,13 @@ module _ (ls : List Layer) (h : ℕ) where
       (λ q. above-next (depth i) (suc i) (suc n) a j q (omega arith))
       (eq-or-lt-of-le k)
 
+  pub untaken : (d i n : ℕ) → taken d (layersFrom ls i n) ≡ false → (j : ℕ) → i ≤ j → j < i + n → d ≡ depth j → ⊥
+  unfolding taken layersFrom
+  untaken d i zero e j k l = absurd (omega arith)
+  untaken d i (suc n) e j k l =
+      let a = neither (eqb d (depth i)) _ e in
+      ⊎-elim (λ q. rw (← q) (eqb-false d (depth i) (a .0))) (λ q. untaken d (suc i) n (a .1) j q (omega arith)) (eq-or-lt-of-le k)
+
   -- ---- and back
   pub rises :
       (above i n : ℕ)
@@ -63,3 +71,8 @@ module _ (ls : List Layer) (h : ℕ) where
       let deeper : 0 < n → depth i < depth (suc i) = λ q. rw (add-one i) at (g i (omega arith)) in
       let rest = rises (depth i) (suc i) n (λ j q. f j (omega arith)) (λ j q. g j (omega arith)) deeper in
       rw (in-layer h (layerAt ls i) (f i (omega arith)), lt-ltb above (depth i) (k (omega arith)), rest)
+
+  pub free : (d i n : ℕ) → ((j : ℕ) → i ≤ j → j < i + n → d ≡ depth j → ⊥) → taken d (layersFrom ls i n) ≡ false
+  unfolding taken layersFrom
+  free d i zero f = refl
+  free d i (suc n) f = rw (ne-eqb d (depth i) (f i (omega arith) (omega arith)), free d (suc i) n (λ j k l. f j (omega arith) (omega arith)))

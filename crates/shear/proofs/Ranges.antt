@@ -19,8 +19,8 @@ pub record AreaIn (b n : ℕ) : Type 0 where
 
 times-width : {s : Section} → Accepted s → (n : ℕ) → 0 < n → n ≤ 1000 → AreaIn (s .b) n
 times-width {s} a n h k =
-    let w : 0 < s .b = omega (arith, a .width .0) in
-    record { some = h; most = k; area = NatL.mul-pos w h; area-most = NatL.mul-le-mul {n₂ = 2000} {m₂ = 1000} (a .width .1) k }
+    let w : 0 < s .b = omega (arith, a .sizes .0 .0) in
+    record { some = h; most = k; area = NatL.mul-pos w h; area-most = NatL.mul-le-mul {n₂ = 2000} {m₂ = 1000} (a .sizes .0 .1) k }
 
 -- b d
 pub web-in : {s : Section} (d : ℕ) → Accepted s → d ≡ effectiveDepth s → AreaIn (s .b) d
@@ -28,7 +28,7 @@ web-in d a e = let k = depth-in a in times-width a d (rw e (k .0)) (rw e (k .1))
 
 -- b h
 pub area-in : {s : Section} → Accepted s → AreaIn (s .b) (s .h)
-area-in {s} a = times-width a (s .h) (omega (arith, a .height .0)) (a .height .1)
+area-in {s} a = times-width a (s .h) (omega (arith, a .sizes .1 .0)) (a .sizes .1 .1)
 
 pub concrete-area : (s : Section) → concreteArea s ≡ s .b * s .h
 concrete-area s = sum-alike (s .h) (s .b)

@@ -6,7 +6,7 @@ use native.Mathlib.Omega.{arith}
 use borrow.Author.Tests.{not-true, not-false}
 use borrow.Author.Needs.{needs}
 use Rattle.arith.proofs.Machine.{read}
-use Rattle.section.proofs.Lines.{from-to}
+use Rattle.section.proofs.Lines.{between}
 use Rattle.section.specs.Accepted.{Accepted}
 use Rattle.section.specs.Refusal.{within}
 use Rattle.law.specs.Law.{lawOf}
@@ -34,7 +34,7 @@ met : (c : tie.Else2)
     Accepted (a .section) × (c .before .before .before .before .of .result .law ≡ lawOf (a .section)) × (1 ≤ a .x) × (a .x ≤ lastDepth (a .section))
 met c =
     let k = passes _ (c .before .before .before .before .of .ensures) (c .before .before .if1 .left) in
-    let r = from-to 1 (c .before .before .before .before .before .args .section .h) _ (on c) in
+    let r = between 1 (c .before .before .before .before .before .args .section .h) _ .0 (on c) in
     (k .0, k .1, r .0, r .1)
 
 returns-3 : tie.Need-returns-3
@@ -59,7 +59,7 @@ amount-at-spec =
     (λ c. search needs)
     (λ c κs. search needs)
     returns-2
-    (λ c. record { fits = omega (arith, met c .3, met c .0 .height .1) })
+    (λ c. record { fits = omega (arith, met c .3, met c .0 .sizes .1 .1) })
     (λ c κs. met (c .before))
     (λ c κs. met (c .before))
     returns-3

@@ -9,7 +9,7 @@ use Rattle.balance.proofs.axis_at.Statement.{statement}
 use Rattle.balance.proofs.axis_at.Tie as tie
 
 limit-most : (c : tie.After-limit-depth) → c .limit-depth .result ≤ 1000
-limit-most c = rw (c .limit-depth .ensures) (omega (arith, limit-in (c .before .pre .0) .1, c .before .pre .0 .height .1))
+limit-most c = rw (c .limit-depth .ensures) (omega (arith, limit-in (c .before .pre .0) .1, c .before .pre .0 .sizes .1 .1))
 
 cast-limit : tie.Need-cast-limit
 cast-limit c = record { fits = omega (arith, limit-most c) }

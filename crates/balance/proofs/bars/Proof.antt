@@ -57,7 +57,7 @@ force-is c =
 turned-requires : tie.Need-turned-requires Inv-loop μ-loop
 turned-requires c κs =
     let p = start (c .before) .pre .0 in
-    (p .height .1, omega (arith, p .layer (at (c .before)) (omega arith) .inside), rw (read (record { sfits = c .before .force .ok })) (c .before .force .ensures .1))
+    (p .sizes .1 .1, omega (arith, p .bars .0 .each (at (c .before)) (omega arith) .inside), rw (read (record { sfits = c .before .force .ok })) (c .before .force .ensures .1))
 
 turned-is : (c : tie.After-turned Inv-loop μ-loop)
     → let a = start (c .before .before) .args in c .turned .result ≡ barMoment rounded (lawOf (a .t1)) (a .t1) (a .axis .x) (at (c .before .before))
@@ -69,7 +69,7 @@ turned-is c =
     is ∙ ap (λ z. lever s (2 * depthAt s (at f)) *ℤ z) (read (record { sfits = f .force .ok }) ∙ force-is f)
 
 few : (c : tie.After-force Inv-loop μ-loop) → at c < 8
-few c = omega (arith, start c .pre .0 .few)
+few c = omega (arith, start c .pre .0 .bars .0 .few)
 
 loop-again : tie.Need-loop-again Inv-loop μ-loop
 loop-again c =
@@ -84,8 +84,8 @@ returns : tie.Need-returns Inv-loop μ-loop
 returns c =
     let s = c .before .before .args .t1 in
     let i = c .before .loop .inv in
-    let f = running-all (s .count) 8 (i .1) (omega arith) (c .before .before .pre .0 .few) in
-    let m = running-all (s .count) 8 (i .2) (omega arith) (c .before .before .pre .0 .few) in
+    let f = running-all (s .count) 8 (i .1) (omega arith) (c .before .before .pre .0 .bars .0 .few) in
+    let m = running-all (s .count) 8 (i .2) (omega arith) (c .before .before .pre .0 .bars .0 .few) in
     record { forces = f .0; force-most = f .1; moments = m .0; moment-most = m .1 }
 
 pub bars-spec : {M : Type 1} → statement M

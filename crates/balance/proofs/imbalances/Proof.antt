@@ -20,7 +20,7 @@ abbrev μ-loop : tie.MeasureT-loop
 loop-again : tie.Need-loop-again Inv-loop μ-loop
 loop-again c =
     let l = c .before .before .loop in
-    let high = c .before .before .before .before .before .pre .0 .height .1 in
+    let high = c .before .before .before .before .before .pre .0 .sizes .1 .1 in
     let is = read (record { sfits = c .imbalance-at .ok }) ∙ c .imbalance-at .ensures in
     (omega arith, length-set (l .kept) (l .i) _ ∙ l .inv .1, kept-next _ (l .i) (l .kept) _ (l .inv .2) (omega (arith, l .inv .1, high)) is)
 
@@ -36,11 +36,11 @@ imbalances-spec =
     (λ c. search needs)
     (λ c κs. search needs)
     (λ c. (omega arith, ap length (c .no-imbalances .ensures) ∙ length-replicate 1000 (pos 0), λ i h. absurd (omega arith)))
-    (λ c. record { fits = omega (arith, c .before .before .before .before .pre .0 .height .1) })
-    (λ c. record { fits = omega (arith, c .before .before .before .before .pre .0 .height .1) })
+    (λ c. record { fits = omega (arith, c .before .before .before .before .pre .0 .sizes .1 .1) })
+    (λ c. record { fits = omega (arith, c .before .before .before .before .pre .0 .sizes .1 .1) })
     (λ c κs. (c .before .before .before .before .pre .0, c .before .before .before .before .pre .1, omega arith, omega arith))
     (λ c. search needs)
-    (λ c. omega (arith, c .before .before .before .before .before .pre .0 .height .1))
+    (λ c. omega (arith, c .before .before .before .before .before .pre .0 .sizes .1 .1))
     (λ c. search needs)
     (λ c. search needs)
     loop-again

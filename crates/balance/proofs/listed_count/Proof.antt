@@ -35,7 +35,7 @@ returns c =
     let s = c .before .before .before .args .section in
     let l = c .before .loop in
     let all : l .i ≡ s .h = omega arith in
-    (l .inv .1 ∙ ap (λ n. length (listTo (kindAt s) (moment s) n)) all, omega (arith, l .inv .2, c .before .before .before .pre .0 .height .1))
+    (l .inv .1 ∙ ap (λ n. length (listTo (kindAt s) (moment s) n)) all, omega (arith, l .inv .2, c .before .before .before .pre .0 .sizes .1 .1))
 
 pub listed-count-spec : {M : Type 1} → statement M
 listed-count-spec =
@@ -46,7 +46,7 @@ listed-count-spec =
     (λ c. search needs)
     loop-holds
     (λ c κs. (c .before .before .before .pre .0, c .before .before .before .pre .1, omega arith))
-    (λ c. record { fits = omega (arith, c .before .before .before .loop .inv .2, c .before .before .before .before .before .pre .0 .height .1) })
+    (λ c. record { fits = omega (arith, c .before .before .before .loop .inv .2, c .before .before .before .before .before .pre .0 .sizes .1 .1) })
     (λ c. search needs)
     (λ c. search needs)
     loop-again

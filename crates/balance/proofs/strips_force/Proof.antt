@@ -32,11 +32,11 @@ both c =
     let p = start c .pre in
     let push = run-most (a .law) false (a .axis) 0 (a .axis .x) in
     let pull = run-most (a .law) true (a .axis) (a .axis .x) (a .section .h) in
-    stands-add (given (65536 * 1000) (c .before .before .compressed .ensures) (omega (arith, push, p .3, p .0 .height .1)) (omega arith))
-    (given (65536 * 1000) (c .before .stretched .ensures) (omega (arith, pull, p .0 .height .1)) (omega arith))
+    stands-add (given (65536 * 1000) (c .before .before .compressed .ensures) (omega (arith, push, p .3, p .0 .sizes .1 .1)) (omega arith))
+    (given (65536 * 1000) (c .before .stretched .ensures) (omega (arith, pull, p .0 .sizes .1 .1)) (omega arith))
 
 force : (c : Met) → Stands (toZ w64 (start c .args .section .b) *ℤ back (computed c)) (pos (start c .args .section .b) *ℤ runs c) (2000 * (65536 * 2000))
-force c = stands-mul (stands-pos (start c .args .section .b) 2000 (start c .pre .0 .width .1) (omega arith)) (stored (both c) (omega arith))
+force c = stands-mul (stands-pos (start c .args .section .b) 2000 (start c .pre .0 .sizes .0 .1) (omega arith)) (stored (both c) (omega arith))
 
 returns : tie.Need-returns
 returns c =

@@ -32,7 +32,7 @@ force-requires c κs =
 
 turned-requires : tie.Need-turned-requires Inv-loop μ-loop
 turned-requires c κs =
-    (c .before .before .before .before .pre .0 .height .1, omega arith, rw (read (record { sfits = c .force .ok })) (c .force .ensures .1))
+    (c .before .before .before .before .pre .0 .sizes .1 .1, omega arith, rw (read (record { sfits = c .force .ok })) (c .force .ensures .1))
 
 turned-is : (c : tie.After-turned Inv-loop μ-loop)
     → let a = c .before .before .before .before .before .args in
@@ -51,7 +51,7 @@ turned-is c =
     ∙ ap (λ z. pos (widthAt (a .section) i) *ℤ z) (read (record { sfits = f .before .strip .ok }) ∙ f .before .strip .ensures ∙ own))
 
 room : (c : tie.After-turned Inv-loop μ-loop) → mostMoment * (c .before .before .before .before .loop .i + 1) < 2 ^ 63
-room c = omega (arith, c .before .before .before .before .before .pre .0 .height .1)
+room c = omega (arith, c .before .before .before .before .before .pre .0 .sizes .1 .1)
 
 add-moment : tie.Need-add-moment Inv-loop μ-loop
 add-moment c = running-fits (c .before .before .before .before .loop .inv .1) (c .turned .result) (turned-is c) (c .turned .ensures .1) (room c)
@@ -60,7 +60,7 @@ loop-again : tie.Need-loop-again Inv-loop μ-loop
 loop-again c = (omega arith, running-next (c .before .before .before .before .loop .inv .1) (c .turned .result) (turned-is c) (c .turned .ensures .1) (room c))
 
 returns : tie.Need-returns Inv-loop μ-loop
-returns c = running-all (c .before .before .args .section .h) 1000 (c .before .loop .inv .1) (omega arith) (c .before .before .pre .0 .height .1)
+returns c = running-all (c .before .before .args .section .h) 1000 (c .before .loop .inv .1) (omega arith) (c .before .before .pre .0 .sizes .1 .1)
 
 pub strips-moment-spec : {M : Type 1} → statement M
 strips-moment-spec =

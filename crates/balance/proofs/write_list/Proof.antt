@@ -36,7 +36,7 @@ room c =
     let a = c .before .before .before .before .before in
     let s = a .args .section in
     let l = c .before .before .before .loop in
-    (omega (arith, l .inv .1, count-more (kindAt s) (moment s) (l .i) (some c), count-grows (kindAt s) (moment s) (l .i + 1) (s .h) (omega arith), a .pre .3), omega (arith, a .pre .0 .height .1))
+    (omega (arith, l .inv .1, count-more (kindAt s) (moment s) (l .i) (some c), count-grows (kindAt s) (moment s) (l .i + 1) (s .h) (omega arith), a .pre .3), omega (arith, a .pre .0 .sizes .1 .1))
 
 loop-again : tie.Need-loop-again Inv-loop μ-loop
 loop-again c =

@@ -19,4 +19,4 @@ unfolding bookAnswer
 returns-2 c = rw (c .count-of .ensures, none (c .before))
 
 pub book-spec : {M : Type 1} → statement M
-book-spec = tie.close (tie.spec (λ c κs. search needs) returns (λ c κs. let g = good _ (none c) in (g .least, g .most)) returns-2)
+book-spec = tie.close (tie.spec (λ c κs. search needs) returns (λ c κs. good _ (none c) .sized .0) returns-2)

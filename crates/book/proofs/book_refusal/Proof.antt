@@ -5,7 +5,7 @@ use borrow.Author.Tests.{not-true, not-false}
 use borrow.Author.Needs.{needs}
 use Rattle.book.specs.Book.{lengthRight, lettersRight, indexRight, recordsRight, bookRefusal}
 use Rattle.book.specs.Code.{Sized}
-use Rattle.book.proofs.Good.{length-sized}
+use Rattle.book.proofs.Good.{length-stands}
 use Rattle.book.proofs.book_refusal.Statement.{statement}
 use Rattle.book.proofs.book_refusal.Tie as tie
 
@@ -18,7 +18,7 @@ long : (c : tie.Else1) → lengthRight (c .before .before .before .args .book .n
 long c = sym (c .before .length-right .ensures) ∙ not-false _ (c .if1 .left)
 
 sized : (c : tie.Else1) → Sized (c .before .before .before .args .book .now)
-sized c = length-sized _ (long c)
+sized c = length-stands _ .0 (long c) .0
 
 lettered : (c : tie.Else2) → lettersRight (c .before .before .before .before .before .before .args .book .now) ≡ true
 lettered c = sym (c .before .before .letters-right .ensures) ∙ not-false _ (c .if2 .left)

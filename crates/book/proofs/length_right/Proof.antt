@@ -2,16 +2,16 @@
 use native.Mathlib.Omega.{arith}
 use lib.ListN.{length}
 use borrow.Author.Needs.{needs}
-use Rattle.section.proofs.Lines.{from-to}
+use Rattle.section.proofs.Lines.{between}
 use Rattle.book.specs.Book.{lengthRight}
 use Rattle.book.proofs.length_right.Statement.{statement}
 use Rattle.book.proofs.length_right.Tie as tie
 
 sub-le32 : tie.Need-sub-le32
-sub-le32 c = omega (arith, from-to 16 65536 (length (c .before .before .args .book .now)) (c .if1 .taken))
+sub-le32 c = omega (arith, between 16 65536 (length (c .before .before .args .book .now)) .0 (c .if1 .taken))
 
 le32-requires : tie.Need-le32-requires
-le32-requires c κs = omega (arith, from-to 16 65536 (length (c .before .before .args .book .now)) (c .if1 .taken))
+le32-requires c κs = omega (arith, between 16 65536 (length (c .before .before .args .book .now)) .0 (c .if1 .taken))
 
 returns : tie.Need-returns
 unfolding lengthRight

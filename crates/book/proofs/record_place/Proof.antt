@@ -16,7 +16,7 @@ none : (c : tie.Else1) → askedRefusal (c .before .before .before .args .bytes 
 none c = sym (c .before .asked-refusal .ensures) ∙ c .if1 .left
 
 sized : (c : tie.Else1) → Sized (c .before .before .before .args .bytes .now)
-sized c = let g = book-good _ _ (none c) in (g .least, g .most)
+sized c = book-good _ _ (none c) .sized .0
 
 returns-2 : tie.Need-returns-2
 unfolding recordAnswer

@@ -62,7 +62,7 @@ concrete-share-spec =
     (λ c. record { fits = omega (arith, web (c .before) .area-most) })
     (λ c κs. search needs)
     (λ c. search needs)
-    (λ c κs. let w = web (c .before .before .before) in (w .area, w .area-most, c .before .steel-area .ensures .1, c .before .before .before .pre .0 .concrete .1))
+    (λ c κs. let w = web (c .before .before .before) in (w .area, w .area-most, c .before .steel-area .ensures .1, c .before .before .before .pre .0 .concrete .0 .1))
     (λ c κs. let w = web (c .before .before .before .before) in (w .some, w .most))
     (λ c. search needs)
     (λ c. record { fits = omega (arith, product c) })

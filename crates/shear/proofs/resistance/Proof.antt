@@ -55,6 +55,6 @@ resistance-spec =
     (λ c κs. let e = c .before .before .before .before in (web e .most, omega (arith, e .before .pre .1, law-in (e .before .pre .0) .fyd .1), e .before .pre .0 .stirrups))
     (λ c. record { fits = omega (arith, shares (c .before), c .stirrups .ensures .1) })
     (λ c. search needs)
-    (λ c κs. let e = c .before .before .before .before .before .before in (e .before .pre .0 .concrete .1, web e .area-most))
+    (λ c κs. let e = c .before .before .before .before .before .before in (e .before .pre .0 .concrete .0 .1, web e .area-most))
     (λ c κs. search needs)
     returns)

@@ -45,7 +45,7 @@ returns c =
     let s = c .before .before .args .t1 in
     let l = c .before .loop in
     let all : l .j ≡ s .count = omega arith in
-    (l .inv .1 ∙ ap (λ n. sumN n (areaBelow s)) all, omega (arith, l .inv .2, c .before .before .pre .few))
+    (l .inv .1 ∙ ap (λ n. sumN n (areaBelow s)) all, omega (arith, l .inv .2, c .before .before .pre .bars .0 .few))
 
 pub steel-area-spec : {M : Type 1} → statement M
 steel-area-spec =

@@ -4,7 +4,7 @@ use native.Mathlib.Omega.{arith}
 use borrow.Author.Tests.{ne-eqb}
 use borrow.Author.Needs.{needs}
 use Rattle.section.specs.Added.{layerRefusal, withLayer, addedAnswer}
-use Rattle.section.proofs.Lines.{takes}
+use Rattle.section.proofs.Accepted.{layers-are, takes}
 use Rattle.section.proofs.Section.with_layer.Statement.{statement}
 use Rattle.section.proofs.Section.with_layer.Tie as tie
 
@@ -19,7 +19,7 @@ unfolding addedAnswer
 returns c = rw (← c .before .layer-refusal .ensures, ne-eqb (c .before .layer-refusal .result) 0 (c .if1 .taken))
 
 with-one-more-requires : tie.Need-with-one-more-requires
-with-one-more-requires c κs = let t = takes _ _ (taken-in c) in (t .room, t .right)
+with-one-more-requires c κs = let t = takes _ _ (taken-in c) in (t .room, layers-are _ .1 (t .there))
 
 add-section : tie.Need-add-section
 add-section c = omega (arith, takes _ _ (taken-in (c .before .before)) .room)

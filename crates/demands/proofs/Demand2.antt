@@ -1,0 +1,150 @@
+-- Demand 2, by what each contract tells. Assumes nothing.
+use Prim.Native.Nat.{ℕ, _-_, _≤_}
+use mathlib.Core.Path.{_≡_, refl, sym, ap, _∙_}
+use mathlib.Core.List.{List}
+use native.Mathlib.Nat.{add-sub-cancel-left}
+use lib.IntN.{ℤ, pos}
+use lib.ListN.{length}
+use Rattle.arith.specs.Answers.{unlessRefused}
+use Rattle.arith.proofs.Answers.{granted}
+use Rattle.section.specs.declared.Layer.{Layer}
+use Rattle.section.specs.declared.Section.{Section}
+use Rattle.section.specs.declared.Added.{Added}
+use Rattle.section.specs.Section.{noLayer}
+use Rattle.section.specs.Refusal.{sectionRefusal}
+use Rattle.section.specs.Added.{layerRefusal, withLayer, addedAnswer}
+use Rattle.section.proofs.Accepted.{layers-are, accepted-exactly}
+use Rattle.section.proofs.Inserted.{layers-added, added-right}
+use Rattle.law.specs.declared.LawAnswer.{LawAnswer}
+use Rattle.law.specs.Law.{lawOf, lawAnswer}
+use Rattle.law.specs.Law as Law
+use Rattle.law.proofs.Answers.{passes}
+use Rattle.drawn.specs.declared.Drawn.{Drawn}
+use Rattle.drawn.specs.Drawn.{pointAt, drawnRefusal, drawn, drawnAnswer}
+use Rattle.drawn.specs.Drawn as Drawn
+use Rattle.drawn.proofs.Within.{point-near}
+use Rattle.balance.specs.declared.Amount.{Amount}
+use Rattle.balance.specs.declared.Listing.{Listing}
+use Rattle.balance.specs.Answers.{answered, noAmount, unlisted, listAnswer, rowAfter}
+use Rattle.balance.proofs.Answers.{amount-is, list-number, list-count, row-written}
+use Rattle.shear.specs.Shear.{resistance, shearRefusal, shearAnswer}
+use Rattle.shear.proofs.Theorems.{square-root, cube-root, axial-floor}
+use Rattle.book.specs.declared.BookAnswer.{BookAnswer}
+use Rattle.book.specs.declared.RecordAnswer.{RecordAnswer}
+use Rattle.book.specs.declared.SectionAnswer.{SectionAnswer}
+use Rattle.book.specs.Record.{layersAt, recordRefusal, layerIn, sectionIn, sectionAnswer}
+use Rattle.book.specs.Record as Record
+use Rattle.book.specs.Book.{countOf, bookRefusal, noBook, bookAnswer, askedRefusal, noRecord, recordAnswer, recordOf}
+use Rattle.book.specs.Good.{Shows}
+use Rattle.book.proofs.Parts.{part-shows, place-inside, place-part}
+use Rattle.book.proofs.Places.{zero-past-count}
+use Rattle.class.specs.declared.ClassAnswer.{ClassAnswer}
+use Rattle.class.specs.Class.{classRefusal, classAnswer}
+use Rattle.class.specs.Class as Class
+use Rattle.panel.specs.Face.{drawnOf, imbalanceOf, momentOf, listOf, rowOf, shearOf}
+use Rattle.demands.specs.Table.{First, askedLines}
+use Rattle.demands.specs.Demand2.{LayerAdded, ClassIs, PointIs, ListIs, PlaceIs, Demand2}
+use Rattle.demands.proofs.Table.{exactly, asked-first}
+
+-- ---- each answer where it is not refused
+module _ (s : Section) where
+  layer-is : (l : Layer) {x : Added} → x ≡ addedAnswer s l → x .refusal ≡ 0 → LayerAdded s l x
+  unfolding addedAnswer
+  layer-is l is h =
+      let g = granted (λ (x : Added). x .refusal) (layerRefusal s l) (record { refusal = 0; section = withLayer s l }) (λ k. record { refusal = k; section = s }) refl is h in
+      rw (g .1) (refl, layers-added s l, layers-are (withLayer s l) .0 (added-right s l (g .0)))
+
+  law-is : {x : LawAnswer} → x ≡ lawAnswer s → x .refusal ≡ 0 → x .law ≡ lawOf s
+  law-is is h = passes s is h .1
+
+  point-is : (e : ℤ) {x : Drawn} → x ≡ drawnAnswer s e → x .refusal ≡ 0 → PointIs s e x
+  unfolding drawnAnswer
+  point-is e is h =
+      let g = granted (λ (x : Drawn). x .refusal) (drawnRefusal s e) (drawn (pointAt (lawOf s) e)) Drawn.refused refl is h in
+      (ap (λ (x : Drawn). x .point) (g .1), rw (← is) at (point-near s e (g .0)))
+
+  shear-is : {x : Amount} → x ≡ shearAnswer s → x .refusal ≡ 0 → x .amount ≡ pos (resistance s)
+  unfolding shearAnswer
+  shear-is is h = ap (λ (x : Amount). x .amount) (granted (λ (x : Amount). x .refusal) (shearRefusal s) (answered (pos (resistance s))) noAmount refl is h .1)
+
+  list-is : (before : List ℤ) {x : Listing} {after : List ℤ} → x ≡ listAnswer s (length before) → after ≡ rowAfter s before → x .refusal ≡ 0 → ListIs s before x after
+  unfolding listAnswer
+  list-is before is left h =
+      let none = sym (list-number s (length before) is) ∙ h in
+      let ok = granted (λ (x : Listing). x .refusal) (sectionRefusal s) _ unlisted refl is h .0 in
+      (list-count s (length before) is ok, left ∙ row-written s before none)
+
+module _ (s : List ℕ) where
+  book-is : {x : BookAnswer} → x ≡ bookAnswer s → x .refusal ≡ 0 → x .count ≡ countOf s
+  unfolding bookAnswer
+  book-is is h = ap (λ (x : BookAnswer). x .count) (granted (λ (x : BookAnswer). x .refusal) (bookRefusal s) _ noBook refl is h .1)
+
+  part-is : (i : ℕ) → First (askedLines s i) 0 → Shows s i (recordOf s i)
+  part-is i f = part-shows s i (exactly _ _ (asked-first s i) 0 .1 f)
+
+  place-is : (i : ℕ) {x : RecordAnswer} → x ≡ recordAnswer s i → x .refusal ≡ 0 → PlaceIs s i x
+  unfolding recordAnswer
+  place-is i {x} is h =
+      let g = granted (λ (x : RecordAnswer). x .refusal) (askedRefusal s i) _ noRecord refl is h in
+      let shows = rw (← place-part s i is, add-sub-cancel-left (x .at) (x .len)) at (part-shows s i (g .0)) in
+      (ap (λ (x : RecordAnswer). x .at) (g .1), ap (λ (x : RecordAnswer). x .len) (g .1), place-inside s i is, shows)
+
+class-is : (fr1 fr3 : ℕ) {x : ClassAnswer} → x ≡ classAnswer fr1 fr3 → x .refusal ≡ 0 → ClassIs fr1 fr3 x
+unfolding classAnswer
+class-is fr1 fr3 is h = rw (granted (λ (x : ClassAnswer). x .refusal) (classRefusal fr1 fr3) _ Class.refused refl is h .1) (refl, refl)
+
+-- ---- of a record that is handed over as bytes
+module _ (r : List ℕ) where
+  section-is : {x : SectionAnswer} → x ≡ sectionAnswer r → x .refusal ≡ 0 → (x .section ≡ sectionIn r) × ((j : ℕ) → layersAt r 0 ≤ j → layerIn r j ≡ noLayer)
+  unfolding sectionAnswer
+  section-is is h =
+      let g = granted (λ (x : SectionAnswer). x .refusal) (recordRefusal r) _ Record.refused refl is h in
+      (ap (λ (x : SectionAnswer). x .section) (g .1), λ j k. zero-past-count r j (g .0) k)
+
+  pub amount-of : (y : Amount) {x : Amount} → x ≡ unlessRefused (recordRefusal r) y noAmount → x .refusal ≡ 0 → x ≡ y
+  amount-of y is h = granted (λ (x : Amount). x .refusal) (recordRefusal r) y noAmount refl is h .1
+
+  list-of :
+      (before : List ℤ) {x : Listing} {after : List ℤ} → x ≡ listOf r (length before) → after ≡ rowOf r before
+      → x .refusal ≡ 0 → ListIs (sectionIn r) before x after
+  unfolding listOf rowOf
+  list-of before is left h =
+      let g = granted (λ (x : Listing). x .refusal) (recordRefusal r) _ unlisted refl is h in
+      list-is (sectionIn r) before (g .1) (rw (g .0) at left) h
+
+pub demand2 : Demand2
+unfolding drawnOf imbalanceOf momentOf shearOf
+demand2 = record {
+  section-refusal = λ κs a x e p. rw p (accepted-exactly (a .0));
+  with-layer = λ κs a x e p. layer-is (a .0) _ p;
+  limit-depth = λ κs a x e p. p;
+  effective-depth = λ κs a x e p. p;
+  law-of = λ κs a x e p. law-is (a .0) p;
+  concrete-size = λ κs a x e p. p;
+  bar-size = λ κs a x e p. p;
+  piece-at = λ κs a x e p. p;
+  draw = λ κs a x e p. point-is (a .0) (a .1 .0) p;
+  strip = λ κs a x e p. p;
+  compressed = λ κs a x e p. p;
+  stretched = λ κs a x e p. p;
+  imbalance-is = λ κs a x e p. amount-is (a .0) (a .1 .0) _ p;
+  moment-is = λ κs a x e p. amount-is (a .0) (a .1 .0) _ p;
+  depths = λ κs a x e p. list-is (a .0) (a .1 .0 .now) (p .0) (p .1);
+  shear = λ κs a x e p. shear-is (a .0) p;
+  square-root = square-root;
+  cube-root = cube-root;
+  axial-share = λ s a. axial-floor a;
+  book = λ κs a x e p. book-is (a .0 .now) p;
+  record-place = λ κs a x e p. place-is (a .0 .now) (a .1 .0) p;
+  record-part = λ κs a x e p. rw p (part-is (a .0 .now) (a .1 .0));
+  section-of = λ κs a x e p. section-is (a .0 .now) p;
+  class = λ κs a x e p. class-is (a .0) (a .1 .0) p;
+  fw-book = λ κs a x e p. book-is (a .0 .now) p;
+  fw-record = λ κs a x e p. place-is (a .0 .now) (a .1 .0) p;
+  fw-class = λ κs a x e p. class-is (a .0) (a .1 .0) p;
+  fw-draw = λ κs a x e p h. point-is (sectionIn (a .0 .now)) (a .1 .0) (granted (λ (x : Drawn). x .refusal) (recordRefusal (a .0 .now)) _ Drawn.refused refl p h .1) h;
+  fw-imbalance = λ κs a x e p h. amount-is (sectionIn (a .0 .now)) (a .1 .0) _ (amount-of (a .0 .now) _ p h) h;
+  fw-moment = λ κs a x e p h. amount-is (sectionIn (a .0 .now)) (a .1 .0) _ (amount-of (a .0 .now) _ p h) h;
+  fw-depths = λ κs a x e p. list-of (a .0 .now) (a .1 .0 .now) (p .0) (p .1);
+  fw-shear = λ κs a x e p h. shear-is (sectionIn (a .0 .now)) (amount-of (a .0 .now) _ p h) h;
+}

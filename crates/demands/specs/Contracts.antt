@@ -1,0 +1,171 @@
+-- What each public function's contract tells a caller, as the checker reads it off the source. Nothing here is written anew, so that a statement over
+-- it can't drift from the contract: where that is weakened, the statement's proof fails.
+use Prim.Native.Nat.{ℕ}
+use mathlib.Core.List.{List}
+use borrow.Fn.Kinds.{PK, RK, Out}
+use Rattle.section.proofs.Section.refusal.Kinds as SectionRefusal
+use Rattle.section.proofs.Section.refusal.Reads as SectionRefusalReads
+use Rattle.section.proofs.Section.with_layer.Kinds as WithLayer
+use Rattle.section.proofs.Section.with_layer.Reads as WithLayerReads
+use Rattle.law.proofs.limit_depth.Kinds as LimitDepth
+use Rattle.law.proofs.limit_depth.Reads as LimitDepthReads
+use Rattle.law.proofs.effective_depth.Kinds as EffectiveDepth
+use Rattle.law.proofs.effective_depth.Reads as EffectiveDepthReads
+use Rattle.law.proofs.Law.of.Kinds as LawOf
+use Rattle.law.proofs.Law.of.Reads as LawOfReads
+use Rattle.law.proofs.Law.concrete_size.Kinds as ConcreteSize
+use Rattle.law.proofs.Law.concrete_size.Reads as ConcreteSizeReads
+use Rattle.law.proofs.Law.bar_size.Kinds as BarSize
+use Rattle.law.proofs.Law.bar_size.Reads as BarSizeReads
+use Rattle.drawn.proofs.Piece.at.Kinds as PieceAt
+use Rattle.drawn.proofs.Piece.at.Reads as PieceAtReads
+use Rattle.drawn.proofs.Drawn.refused.Kinds as DrawnRefused
+use Rattle.drawn.proofs.Drawn.refused.Reads as DrawnRefusedReads
+use Rattle.drawn.proofs.draw.Kinds as Draw
+use Rattle.drawn.proofs.draw.Reads as DrawReads
+use Rattle.strips.proofs.strip.Kinds as Strip
+use Rattle.strips.proofs.strip.Reads as StripReads
+use Rattle.strips.proofs.compressed.Kinds as Compressed
+use Rattle.strips.proofs.compressed.Reads as CompressedReads
+use Rattle.strips.proofs.stretched.Kinds as Stretched
+use Rattle.strips.proofs.stretched.Reads as StretchedReads
+use Rattle.balance.proofs.Amount.refused.Kinds as AmountRefused
+use Rattle.balance.proofs.Amount.refused.Reads as AmountRefusedReads
+use Rattle.balance.proofs.Listing.refused.Kinds as ListingRefused
+use Rattle.balance.proofs.Listing.refused.Reads as ListingRefusedReads
+use Rattle.balance.proofs.imbalance.Kinds as Imbalance
+use Rattle.balance.proofs.imbalance.Reads as ImbalanceReads
+use Rattle.balance.proofs.moment.Kinds as Moment
+use Rattle.balance.proofs.moment.Reads as MomentReads
+use Rattle.balance.proofs.depths.Kinds as Depths
+use Rattle.balance.proofs.depths.Reads as DepthsReads
+use Rattle.shear.proofs.shear.Kinds as Shear
+use Rattle.shear.proofs.shear.Reads as ShearReads
+use Rattle.book.proofs.book.Kinds as Book
+use Rattle.book.proofs.book.Reads as BookReads
+use Rattle.book.proofs.record_place.Kinds as RecordPlace
+use Rattle.book.proofs.record_place.Reads as RecordPlaceReads
+use Rattle.book.proofs.record.Kinds as RecordPart
+use Rattle.book.proofs.record.Reads as RecordPartReads
+use Rattle.book.proofs.section_of.Kinds as SectionOf
+use Rattle.book.proofs.section_of.Reads as SectionOfReads
+use Rattle.class.proofs.class.Kinds as Class
+use Rattle.class.proofs.class.Reads as ClassReads
+use Rattle.panel.proofs.fw_book.Kinds as FwBook
+use Rattle.panel.proofs.fw_book.Reads as FwBookReads
+use Rattle.panel.proofs.fw_record.Kinds as FwRecord
+use Rattle.panel.proofs.fw_record.Reads as FwRecordReads
+use Rattle.panel.proofs.fw_class.Kinds as FwClass
+use Rattle.panel.proofs.fw_class.Reads as FwClassReads
+use Rattle.panel.proofs.fw_draw.Kinds as FwDraw
+use Rattle.panel.proofs.fw_draw.Reads as FwDrawReads
+use Rattle.panel.proofs.fw_imbalance.Kinds as FwImbalance
+use Rattle.panel.proofs.fw_imbalance.Reads as FwImbalanceReads
+use Rattle.panel.proofs.fw_moment.Kinds as FwMoment
+use Rattle.panel.proofs.fw_moment.Reads as FwMomentReads
+use Rattle.panel.proofs.fw_depths.Kinds as FwDepths
+use Rattle.panel.proofs.fw_depths.Reads as FwDepthsReads
+use Rattle.panel.proofs.fw_shear.Kinds as FwShear
+use Rattle.panel.proofs.fw_shear.Reads as FwShearReads
+
+-- what it takes, what it gives, and what is told of these; n is the number of lifetimes in its signature
+pub record Contract (n : ℕ) : Type 3 where
+  pub takes : List (PK n)
+  pub gives : RK n
+  pub told : Out n takes gives
+
+abbrev pub section-refusal : Contract 0
+section-refusal = record { takes = SectionRefusal.ps; gives = SectionRefusal.r; told = SectionRefusalReads.Learnt }
+
+abbrev pub with-layer : Contract 0
+with-layer = record { takes = WithLayer.ps; gives = WithLayer.r; told = WithLayerReads.Learnt }
+
+abbrev pub limit-depth : Contract 0
+limit-depth = record { takes = LimitDepth.ps; gives = LimitDepth.r; told = LimitDepthReads.Learnt }
+
+abbrev pub effective-depth : Contract 0
+effective-depth = record { takes = EffectiveDepth.ps; gives = EffectiveDepth.r; told = EffectiveDepthReads.Learnt }
+
+abbrev pub law-of : Contract 0
+law-of = record { takes = LawOf.ps; gives = LawOf.r; told = LawOfReads.Learnt }
+
+abbrev pub concrete-size : Contract 0
+concrete-size = record { takes = ConcreteSize.ps; gives = ConcreteSize.r; told = ConcreteSizeReads.Learnt }
+
+abbrev pub bar-size : Contract 0
+bar-size = record { takes = BarSize.ps; gives = BarSize.r; told = BarSizeReads.Learnt }
+
+abbrev pub piece-at : Contract 0
+piece-at = record { takes = PieceAt.ps; gives = PieceAt.r; told = PieceAtReads.Learnt }
+
+abbrev pub drawn-refused : Contract 0
+drawn-refused = record { takes = DrawnRefused.ps; gives = DrawnRefused.r; told = DrawnRefusedReads.Learnt }
+
+abbrev pub draw : Contract 0
+draw = record { takes = Draw.ps; gives = Draw.r; told = DrawReads.Learnt }
+
+abbrev pub strip : Contract 0
+strip = record { takes = Strip.ps; gives = Strip.r; told = StripReads.Learnt }
+
+abbrev pub compressed : Contract 0
+compressed = record { takes = Compressed.ps; gives = Compressed.r; told = CompressedReads.Learnt }
+
+abbrev pub stretched : Contract 0
+stretched = record { takes = Stretched.ps; gives = Stretched.r; told = StretchedReads.Learnt }
+
+abbrev pub amount-refused : Contract 0
+amount-refused = record { takes = AmountRefused.ps; gives = AmountRefused.r; told = AmountRefusedReads.Learnt }
+
+abbrev pub listing-refused : Contract 0
+listing-refused = record { takes = ListingRefused.ps; gives = ListingRefused.r; told = ListingRefusedReads.Learnt }
+
+abbrev pub imbalance : Contract 0
+imbalance = record { takes = Imbalance.ps; gives = Imbalance.r; told = ImbalanceReads.Learnt }
+
+abbrev pub moment : Contract 0
+moment = record { takes = Moment.ps; gives = Moment.r; told = MomentReads.Learnt }
+
+abbrev pub depths : Contract 1
+depths = record { takes = Depths.ps; gives = Depths.r; told = DepthsReads.Learnt }
+
+abbrev pub shear : Contract 0
+shear = record { takes = Shear.ps; gives = Shear.r; told = ShearReads.Learnt }
+
+abbrev pub book : Contract 1
+book = record { takes = Book.ps; gives = Book.r; told = BookReads.Learnt }
+
+abbrev pub record-place : Contract 1
+record-place = record { takes = RecordPlace.ps; gives = RecordPlace.r; told = RecordPlaceReads.Learnt }
+
+abbrev pub record-part : Contract 1
+record-part = record { takes = RecordPart.ps; gives = RecordPart.r; told = RecordPartReads.Learnt }
+
+abbrev pub section-of : Contract 1
+section-of = record { takes = SectionOf.ps; gives = SectionOf.r; told = SectionOfReads.Learnt }
+
+abbrev pub class : Contract 0
+class = record { takes = Class.ps; gives = Class.r; told = ClassReads.Learnt }
+
+abbrev pub fw-book : Contract 1
+fw-book = record { takes = FwBook.ps; gives = FwBook.r; told = FwBookReads.Learnt }
+
+abbrev pub fw-record : Contract 1
+fw-record = record { takes = FwRecord.ps; gives = FwRecord.r; told = FwRecordReads.Learnt }
+
+abbrev pub fw-class : Contract 0
+fw-class = record { takes = FwClass.ps; gives = FwClass.r; told = FwClassReads.Learnt }
+
+abbrev pub fw-draw : Contract 1
+fw-draw = record { takes = FwDraw.ps; gives = FwDraw.r; told = FwDrawReads.Learnt }
+
+abbrev pub fw-imbalance : Contract 1
+fw-imbalance = record { takes = FwImbalance.ps; gives = FwImbalance.r; told = FwImbalanceReads.Learnt }
+
+abbrev pub fw-moment : Contract 1
+fw-moment = record { takes = FwMoment.ps; gives = FwMoment.r; told = FwMomentReads.Learnt }
+
+abbrev pub fw-depths : Contract 2
+fw-depths = record { takes = FwDepths.ps; gives = FwDepths.r; told = FwDepthsReads.Learnt }
+
+abbrev pub fw-shear : Contract 1
+fw-shear = record { takes = FwShear.ps; gives = FwShear.r; told = FwShearReads.Learnt }

@@ -1,0 +1,68 @@
+-- Demand 1: every call returns on every input and expects nothing of its caller; what is bad is refused by number, and a refusal hands back zeros and
+-- writes nothing into what was lent.
+--
+-- That a call returns is what 'proved' means of a function in this language: a proof is of total correctness, so that every loop has a measure and no
+-- operation can fail. That it expects nothing is that no public function has a `requires`. What is refused, and what stands beside it, is said here.
+use Prim.Native.Nat.{ℕ}
+use mathlib.Core.Path.{_≡_}
+use mathlib.Core.Logic.{_↔_}
+use mathlib.Core.List.{List, [], _++_}
+use lib.IntN.{ℤ, pos}
+use lib.ListN.{length}
+use Rattle.section.specs.declared.Section.{Section}
+use Rattle.law.specs.Law.{noLaw}
+use Rattle.drawn.specs.Drawn.{noPoint}
+use Rattle.balance.specs.declared.Listing.{Listing}
+use Rattle.balance.specs.Depths.{listed}
+use Rattle.book.specs.Record.{noSection, sectionIn}
+use Rattle.demands.specs.Every as Every
+use Rattle.demands.specs.Table.{Line, First, bookLines, askedLines, loneLines, sectionLines, layerLines, depthsLines, shearLines, classLines, strainLines, gridLines}
+
+-- each number is returned exactly where its line is the first that holds of those that concern the call, and 0 exactly where none does
+abbrev pub ByTable : List Line → ℕ → Type 0
+ByTable lines refusal = (k : ℕ) → (refusal ≡ k) ↔ First lines k
+
+-- and beside a refusal stand zeros
+pub record Refuses (lines : List Line) (refusal : ℕ) (zeros : Type 0) : Type 0 where
+  pub number : ByTable lines refusal
+  pub beside : (refusal ≡ 0 → ⊥) → zeros
+
+-- beside that of a list no count, but under 15 the number of listed depths; and the row is as it was
+pub record RefusesList (lines : List Line) (s : Section) (before : List ℤ) (x : Listing) (after : List ℤ) : Type 0 where
+  pub number : ByTable lines (x .refusal)
+  pub zero : (x .refusal ≡ 0 → ⊥) → (x .refusal ≡ 15 → ⊥) → x .count ≡ 0
+  pub needed : x .refusal ≡ 15 → x .count ≡ length (listed s)
+  pub row : (x .refusal ≡ 0 → ⊥) → after ≡ before
+
+-- of every call of each public function that refuses anything
+pub record Demand1 : Type 0 where
+  -- a section: 7 to 13; under 12 a layer is not added, and the section is as it came
+  pub section-refusal : Every.section-refusal (λ s x. ByTable (sectionLines s) x)
+  pub with-layer : Every.with-layer (λ s depth area x. Refuses (layerLines s (record { depth = depth; area = area })) (x .refusal) (x .section ≡ s))
+  pub law-of : Every.law-of (λ s x. Refuses (sectionLines s) (x .refusal) (x .law ≡ noLaw))
+  pub draw : Every.draw (λ s e x. Refuses (strainLines s e) (x .refusal) (x .point ≡ noPoint))
+  pub imbalance : Every.imbalance (λ s d x. Refuses (gridLines s d) (x .refusal) (x .amount ≡ pos 0))
+  pub moment : Every.moment (λ s d x. Refuses (gridLines s d) (x .refusal) (x .amount ≡ pos 0))
+  pub depths : Every.depths (λ s before x after. RefusesList (depthsLines s (length before)) s before x after)
+  pub shear : Every.shear (λ s x. Refuses (shearLines s) (x .refusal) (x .amount ≡ pos 0))
+  -- a book, and a record of it: 1 to 5; the part is empty exactly where one of them holds
+  pub book : Every.book (λ bytes x. Refuses (bookLines bytes) (x .refusal) (x .count ≡ 0))
+  pub record-place : Every.record-place (λ bytes i x. Refuses (askedLines bytes i) (x .refusal) ((x .at ≡ 0) × (x .len ≡ 0)))
+  pub record-part : Every.record-part (λ bytes i part. (part ≡ []) ↔ (First (askedLines bytes i) 0 → ⊥))
+  -- a lone record: 6
+  pub section-of : Every.section-of (λ part x. Refuses (loneLines part) (x .refusal) (x .section ≡ noSection))
+  -- a class: 17
+  pub class : Every.class (λ fr1 fr3 x. Refuses (classLines fr1 fr3) (x .refusal) ((x .step ≡ 0) × (x .letter ≡ 0)))
+  -- a refusal that is handed on: its number, and zeros
+  pub drawn-refused : Every.drawn-refused (λ number x. (x .refusal ≡ number) × (x .point ≡ noPoint))
+  pub amount-refused : Every.amount-refused (λ number x. (x .refusal ≡ number) × (x .amount ≡ pos 0))
+  pub listing-refused : Every.listing-refused (λ number x. (x .refusal ≡ number) × (x .count ≡ 0))
+  -- the C face: the same; of a record that is handed over as bytes 6 first
+  pub fw-book : Every.fw-book (λ bytes x. Refuses (bookLines bytes) (x .refusal) (x .count ≡ 0))
+  pub fw-record : Every.fw-record (λ bytes i x. Refuses (askedLines bytes i) (x .refusal) ((x .at ≡ 0) × (x .len ≡ 0)))
+  pub fw-class : Every.fw-class (λ fr1 fr3 x. Refuses (classLines fr1 fr3) (x .refusal) ((x .step ≡ 0) × (x .letter ≡ 0)))
+  pub fw-draw : Every.fw-draw (λ part e x. Refuses (loneLines part ++ strainLines (sectionIn part) e) (x .refusal) (x .point ≡ noPoint))
+  pub fw-imbalance : Every.fw-imbalance (λ part d x. Refuses (loneLines part ++ gridLines (sectionIn part) d) (x .refusal) (x .amount ≡ pos 0))
+  pub fw-moment : Every.fw-moment (λ part d x. Refuses (loneLines part ++ gridLines (sectionIn part) d) (x .refusal) (x .amount ≡ pos 0))
+  pub fw-depths : Every.fw-depths (λ part before x after. RefusesList (loneLines part ++ depthsLines (sectionIn part) (length before)) (sectionIn part) before x after)
+  pub fw-shear : Every.fw-shear (λ part x. Refuses (loneLines part ++ shearLines (sectionIn part)) (x .refusal) (x .amount ≡ pos 0))

@@ -1,0 +1,99 @@
+-- Demand 2: a section with a layer added, class, stress, imbalance, moment and shear equal the rules to the last rounding; a record read from a book
+-- shows exactly the bytes filed.
+use Prim.Native.Nat.{ℕ, _+_, _*_, _≤_, _<_}
+use mathlib.Core.Path.{_≡_}
+use mathlib.Core.Bool.{true, false}
+use mathlib.Core.Logic.{_↔_}
+use mathlib.Core.List.{List, _++_}
+use lib.Dec.{leb}
+use lib.IntN.{ℤ, pos, _+ℤ_, _*ℤ_}
+use lib.ListN.{length, drop}
+use lib.Signed.{_≤ℤ_, _<ℤ_}
+use Rattle.arith.specs.Largest.{Largest, largest}
+use Rattle.section.specs.declared.Layer.{Layer}
+use Rattle.section.specs.declared.Section.{Section}
+use Rattle.section.specs.declared.Added.{Added}
+use Rattle.section.specs.Section.{noLayer, layersOf}
+use Rattle.section.specs.Accepted.{LayersIn, Accepted}
+use Rattle.section.specs.Added.{inserted, withLayer}
+use Rattle.law.specs.Law.{limitDepth, effectiveDepth, lawOf}
+use Rattle.law.specs.Stress.{signed, size, concrete, bar}
+use Rattle.law.specs.Sizes.{sizeIn}
+use Rattle.drawn.specs.declared.Drawn.{Drawn}
+use Rattle.drawn.specs.Drawn.{PointNear, pointAt}
+use Rattle.drawn.specs.Pieces.{evaluated}
+use Rattle.strips.specs.Strips.{stripSize, runOf}
+use Rattle.balance.specs.declared.Listing.{Listing}
+use Rattle.balance.specs.Forces.{concreteArea, loadOf, imbalance, moment}
+use Rattle.balance.specs.Depths.{listed, words}
+use Rattle.shear.specs.Shear.{squared, cubed, axialShare, resistance}
+use Rattle.book.specs.declared.RecordAnswer.{RecordAnswer}
+use Rattle.book.specs.Record.{layersAt, sizeAt, layerIn, sectionIn}
+use Rattle.book.specs.Book.{countOf, startOf, partOf}
+use Rattle.book.specs.Good.{Shows}
+use Rattle.class.specs.declared.ClassAnswer.{ClassAnswer}
+use Rattle.class.specs.Class.{stepOf, letterOf}
+use Rattle.demands.specs.Every as Every
+use Rattle.demands.specs.Table.{First, askedLines}
+
+-- the layer is in its place by depth, and the layers are right as before
+abbrev pub LayerAdded : Section → Layer → Added → Type 0
+LayerAdded s l x = (x .section ≡ withLayer s l) × (layersOf (x .section) ≡ inserted l (layersOf s)) × LayersIn (x .section)
+
+abbrev pub ClassIs : ℕ → ℕ → ClassAnswer → Type 0
+ClassIs fr1 fr3 x = (x .step ≡ stepOf fr1) × (x .letter ≡ letterOf (stepOf fr1) fr3)
+
+-- the point is the rule's, and within one millionth of a kPa of the exact fraction
+abbrev pub PointIs : Section → ℤ → Drawn → Type 0
+PointIs s e x = (x .point ≡ pointAt (lawOf s) e) × PointNear (lawOf s) e (x .point)
+
+-- the list's words, then the row's own
+abbrev pub ListIs : Section → List ℤ → Listing → List ℤ → Type 0
+ListIs s before x after = (x .count ≡ length (listed s)) × (after ≡ words (listed s) ++ drop (3 * length (listed s)) before)
+
+-- the record's place, inside the book; what lies there shows the record
+abbrev pub PlaceIs : List ℕ → ℕ → RecordAnswer → Type 0
+PlaceIs bytes i x = (x .at ≡ startOf bytes i) × (x .len ≡ sizeAt bytes (startOf bytes i)) × (x .at + x .len ≤ length bytes) × Shows bytes i (partOf bytes (x .at) (x .len))
+
+-- of every call of each public function: what it answers where it does not refuse
+pub record Demand2 : Type 0 where
+  -- a section
+  pub section-refusal : Every.section-refusal (λ s x. (x ≡ 0) ↔ Accepted s)
+  pub with-layer : Every.with-layer (λ s depth area x. x .refusal ≡ 0 → LayerAdded s (record { depth = depth; area = area }) x)
+  -- its law, and the stress of concrete and bars at the strain 500 t / q
+  pub limit-depth : Every.limit-depth (λ s x. x ≡ limitDepth s)
+  pub effective-depth : Every.effective-depth (λ s x. x ≡ effectiveDepth s)
+  pub law-of : Every.law-of (λ s x. x .refusal ≡ 0 → x .law ≡ lawOf s)
+  pub concrete-size : Every.concrete-size (λ l pulls t q x. x ≡ sizeIn l (concrete l pulls (500 * t) q))
+  pub bar-size : Every.bar-size (λ l t q x. x ≡ size (bar l true (500 * t) q))
+  pub piece-at : Every.piece-at (λ piece e x. x ≡ evaluated piece e)
+  pub draw : Every.draw (λ s e x. x .refusal ≡ 0 → PointIs s e x)
+  -- strips, and the sums over them
+  pub strip : Every.strip (λ l axis i x. x ≡ signed (leb (axis .x) i) (stripSize l (leb (axis .x) i) axis i))
+  pub compressed : Every.compressed (λ l axis from to x. x ≡ runOf l false axis from to)
+  pub stretched : Every.stretched (λ l axis from to x. x ≡ runOf l true axis from to)
+  pub imbalance-is : Every.imbalance (λ s d x. x .refusal ≡ 0 → x .amount ≡ imbalance s d)
+  pub moment-is : Every.moment (λ s d x. x .refusal ≡ 0 → x .amount ≡ moment s d)
+  pub depths : Every.depths (λ s before x after. x .refusal ≡ 0 → ListIs s before x after)
+  -- shear; its roots are the largest of all numbers, and the axial share is rounded towards minus infinity
+  pub shear : Every.shear (λ s x. x .refusal ≡ 0 → x .amount ≡ pos (resistance s))
+  pub square-root : (d bound : ℕ) → 0 < d → Largest (squared d) bound (largest (squared d) bound)
+  pub cube-root : (bd bound : ℕ) → 0 < bd → Largest (cubed bd) bound (largest (cubed bd) bound)
+  pub axial-share : (s : Section) → Accepted s
+      → let D = pos (100 * concreteArea s) in ((D *ℤ axialShare s) ≤ℤ (pos 15 *ℤ loadOf s)) × ((pos 15 *ℤ loadOf s) <ℤ ((D *ℤ axialShare s) +ℤ D))
+  -- a book, the part of a record, and its section, in which places past the layer count are zero
+  pub book : Every.book (λ bytes x. x .refusal ≡ 0 → x .count ≡ countOf bytes)
+  pub record-place : Every.record-place (λ bytes i x. x .refusal ≡ 0 → PlaceIs bytes i x)
+  pub record-part : Every.record-part (λ bytes i part. First (askedLines bytes i) 0 → Shows bytes i part)
+  pub section-of : Every.section-of (λ part x. x .refusal ≡ 0 → (x .section ≡ sectionIn part) × ((j : ℕ) → layersAt part 0 ≤ j → layerIn part j ≡ noLayer))
+  -- a class
+  pub class : Every.class (λ fr1 fr3 x. x .refusal ≡ 0 → ClassIs fr1 fr3 x)
+  -- the C face
+  pub fw-book : Every.fw-book (λ bytes x. x .refusal ≡ 0 → x .count ≡ countOf bytes)
+  pub fw-record : Every.fw-record (λ bytes i x. x .refusal ≡ 0 → PlaceIs bytes i x)
+  pub fw-class : Every.fw-class (λ fr1 fr3 x. x .refusal ≡ 0 → ClassIs fr1 fr3 x)
+  pub fw-draw : Every.fw-draw (λ part e x. x .refusal ≡ 0 → PointIs (sectionIn part) e x)
+  pub fw-imbalance : Every.fw-imbalance (λ part d x. x .refusal ≡ 0 → x .amount ≡ imbalance (sectionIn part) d)
+  pub fw-moment : Every.fw-moment (λ part d x. x .refusal ≡ 0 → x .amount ≡ moment (sectionIn part) d)
+  pub fw-depths : Every.fw-depths (λ part before x after. x .refusal ≡ 0 → ListIs (sectionIn part) before x after)
+  pub fw-shear : Every.fw-shear (λ part x. x .refusal ≡ 0 → x .amount ≡ pos (resistance (sectionIn part)))
