@@ -20,21 +20,22 @@ use Rattle.book.specs.Record.{sectionIn}
 use Rattle.book.specs.Good.{StandsAlone}
 use Rattle.book.proofs.Good.{record-stands}
 use Rattle.panel.specs.Face.{imbalanceOf, momentOf, listOf, rowOf}
-use Rattle.demands.specs.Demand3.{Shows, Lists, ImbalanceNear, MomentNear, Demand3}
+use Rattle.demands.specs.Demand3.{RowShows, Lists, ImbalanceNear, MomentNear, Demand3}
 use Rattle.demands.proofs.Demand2.{amount-of}
 
 module _ (s : Section) (before : List ℤ) {x : Listing} {after : List ℤ} (is : x ≡ listAnswer s (length before)) (left : after ≡ rowAfter s before) (ok : sectionRefusal s ≡ 0) where
-  shows : 3 * x .count ≤ length before → Shows s (x .count) after
+  shows : 3 * x .count ≤ length before → RowShows s (x .count) after
   shows room =
       let exactly = shown-exactly s before is left ok room in
       let shown : (e : Entry) → List·Memᴰ e (listed s) → Shown after (x .count) e = λ e w. exactly e .1 (listed-exactly s e .0 w) in
       record {
         exactly = exactly;
         rising = shown-rising s before is left ok room;
+        own = λ e w. exactly e .0 w .moment;
+        near = λ e w. let b = exactly e .0 w in rw (b .moment) (moment-close s (e .depth) ok (b .from));
         pairs = λ d from to k. shown _ (pair-listed s d ok from to k);
         zeros = λ d from to z. shown _ (zero-listed s d from to z);
         last = λ z. shown _ (last-zero-listed s ok z);
-        own = λ e w. exactly e .0 w .moment;
       }
 
   lists : Lists s before x after

@@ -19,19 +19,28 @@ use Rattle.book.specs.Record.{sectionIn}
 use Rattle.book.specs.Good.{StandsAlone}
 use Rattle.demands.specs.Every as Every
 
--- what the caller reads in the row, where it has room for three words a listed depth
-pub record Shows (s : Section) (count : ℕ) (row : List ℤ) : Type 0 where
+-- 2. an imbalance lies within one kPa times the area of the exact one, a moment within that times h
+abbrev pub ImbalanceNear : Section → ℕ → ℤ → Type 0
+ImbalanceNear s x amount = natAbs (exactImbalance s x -ℤ (pos (common s x) *ℤ amount)) < common s x * area s
+
+abbrev pub MomentNear : Section → ℕ → ℤ → Type 0
+MomentNear s x amount = natAbs (exactMoment s x -ℤ (pos (common s x) *ℤ amount)) ≤ common s x * (area s * s .h)
+
+-- what a caller reads in the row, where it has room for three words a listed depth
+pub record RowShows (s : Section) (count : ℕ) (row : List ℤ) : Type 0 where
   -- 1. exactly the entries whose depth is on the grid and has that kind and that moment; each once, strictly ascending
   pub exactly : (e : Entry) → Shown row count e ↔ Balances s e
   pub rising : (i : ℕ) → i + 1 < count → wordAt row (3 * i) <ℤ wordAt row (3 * (i + 1))
+  -- 2. a moment that is shown is the one at its own depth, and lies within the allowance of the exact one
+  pub own : (e : Entry) → Shown row count e → e .moment ≡ moment s (e .depth)
+  pub near : (e : Entry) → Shown row count e → MomentNear s (e .depth) (e .moment)
   -- 3. where the exact imbalances at neighbours are clearly on two sides of zero, the shallower is shown
   pub pairs : (x : ℕ) → 1 ≤ x → x < lastDepth s
       → (ClearlyAbove s x × ClearlyBelow s (x + 1)) ⊎ (ClearlyBelow s x × ClearlyAbove s (x + 1))
       → Shown row count (record { depth = x; kind = 2; moment = moment s x })
-  -- 4. a zero is shown, at the last depth too, which has no next one; a moment that is shown is the one at its own depth
+  -- 4. a zero is shown, at the last depth too, which has no next one
   pub zeros : (x : ℕ) → 1 ≤ x → x ≤ lastDepth s → imbalance s x ≡ pos 0 → Shown row count (record { depth = x; kind = 1; moment = moment s x })
   pub last : imbalance s (lastDepth s) ≡ pos 0 → Shown row count (record { depth = lastDepth s; kind = 1; moment = moment s (lastDepth s) })
-  pub own : (e : Entry) → Shown row count e → e .moment ≡ moment s (e .depth)
 
 -- what is answered of an accepted section, and left in the row
 pub record Lists (s : Section) (before : List ℤ) (x : Listing) (after : List ℤ) : Type 0 where
@@ -39,17 +48,10 @@ pub record Lists (s : Section) (before : List ℤ) (x : Listing) (after : List �
   pub count : x .count ≡ howMany s
   pub none : (x .refusal ≡ 14) ↔ ((d : ℕ) → 1 ≤ d → d ≤ lastDepth s → kindAt s d ≡ 0)
   pub short : (x .refusal ≡ 15) ↔ (length before < 3 * x .count)
-  pub row : 3 * x .count ≤ length before → Shows s (x .count) after
+  pub row : 3 * x .count ≤ length before → RowShows s (x .count) after
   -- the words after the list stay
   pub rest : (j : ℕ) → 3 * x .count ≤ j → wordAt after j ≡ wordAt before j
   pub size : length after ≡ length before
-
--- 2. an imbalance lies within one kPa times the area of the exact one, a moment within that times h
-abbrev pub ImbalanceNear : Section → ℕ → ℤ → Type 0
-ImbalanceNear s x amount = natAbs (exactImbalance s x -ℤ (pos (common s x) *ℤ amount)) < common s x * area s
-
-abbrev pub MomentNear : Section → ℕ → ℤ → Type 0
-MomentNear s x amount = natAbs (exactMoment s x -ℤ (pos (common s x) *ℤ amount)) ≤ common s x * (area s * s .h)
 
 -- the exact sums have a denominator, and over it each strip's and each bar's stress is the fraction that it is
 pub record ExactSums (s : Section) : Type 0 where
