@@ -1,12 +1,12 @@
 -- The strips at the top that are compressed by more than 2000: how many there are, and that all bear alike. Assumes nothing.
 use Prim.Native.Nat.{ℕ, _+_, _*_, _-_, _/_, _≤_, _<_}
 use mathlib.Core.Path.{_≡_, ap}
-use mathlib.Core.Bool.{false}
+use mathlib.Core.Bool.{false, cond}
 use native.Mathlib.Nat as NatL
 use native.Mathlib.Omega.{arith}
 use borrow.Author.Tests.{lt-leb}
 use Rattle.law.specs.declared.Law.{Law}
-use Rattle.law.specs.Stress.{flat, compressed}
+use Rattle.law.specs.Stress.{flat, parabola, compressed}
 use Rattle.law.specs.Sizes.{sizeIn}
 use Rattle.strips.specs.declared.Axis.{Axis}
 use Rattle.strips.specs.Strips.{reach, stripSize}
@@ -24,4 +24,6 @@ module _ (unit x over : ℕ) where
 
 pub level-size : (l : Law) (a : Axis) (i : ℕ) → 4 * a .over < a .unit * reach false (a .x) i → stripSize l false a i ≡ sizeIn l (flat false (l .fcd))
 unfolding compressed
-level-size l a i h = rw (lt-leb (500 * a .unit * reach false (a .x) i) (2000 * a .over) (omega arith))
+level-size l a i h =
+    let p = 500 * a .unit * reach false (a .x) i in
+    ap (λ t. sizeIn l (cond t (parabola (l .fcd) p (a .over)) (flat false (l .fcd)))) (lt-leb p (2000 * a .over) (omega arith))
