@@ -2,7 +2,7 @@
 use Prim.Native.Nat.{ℕ, zero, suc, _≤_, _<_}
 use mathlib.Core.Path.{_≡_, refl}
 use mathlib.Core.Bool.{Bool, true, false, not, _&&_, _||_, true≢false, false≢true}
-use mathlib.Core.Logic.{⊎-elim, _↔_, Iff·trans}
+use mathlib.Core.Logic.{⊎-elim, _↔_}
 use native.Mathlib.Nat.{eq-or-lt-of-le}
 use native.Mathlib.Omega.{arith}
 use lib.Dec.{ltb, leb, eqb, eqb·suc-zero}
@@ -52,6 +52,3 @@ is-not-less a b = (λ e. ltb-false a b (not-true _ e), λ h. rw (le-ltb a b h))
 pub is-unless-zero : (n : ℕ) {t : Bool} {P : Type 0} → Decides t P → Decides (eqb n 0 || t) (0 < n → P)
 is-unless-zero zero p = (λ e h. absurd (omega arith), λ f. refl)
 is-unless-zero (suc n) p = rw eqb·suc-zero (λ e h. p .0 e, λ f. p .1 (f (omega arith)))
-
-pub is-as : {t : Bool} {P Q : Type 0} → Decides t P → P ↔ Q → Decides t Q
-is-as p q = Iff·trans p q

@@ -2,12 +2,12 @@
 use Prim.Native.Nat.{ℕ, _*_, _≤_, _<_}
 use mathlib.Core.Path.{_≡_, refl, sym, ap, _∙_}
 use mathlib.Core.Bool.{Bool, true, false}
-use mathlib.Core.List.{List, _++_}
+use mathlib.Core.List.{List}
 use native.Mathlib.Nat.{pos-of-ne-zero}
 use native.Mathlib.Omega.{arith}
 use lib.Dec.{ltb, leb}
 use lib.IntN.{ℤ}
-use lib.ListN.{length, drop}
+use lib.ListN.{length}
 use borrow.Author.Tests.{ltb-false, ne-eqb, lt-ltb, lt-leb, le-leb}
 use Rattle.arith.proofs.Answers.{of-answer, granted}
 use Rattle.section.specs.declared.Section.{Section}
@@ -19,7 +19,7 @@ use Rattle.law.specs.Law.{lawAnswer}
 use Rattle.law.proofs.Answers.{number, some-refusal, no-refusal}
 use Rattle.balance.specs.declared.Amount.{Amount}
 use Rattle.balance.specs.declared.Listing.{Listing}
-use Rattle.balance.specs.Depths.{lastDepth, listed, words}
+use Rattle.balance.specs.Depths.{lastDepth, listed, written}
 use Rattle.balance.specs.Answers.{gridRefusal, answered, noAmount, amountAnswer, depthsRefusal, listRefusal, unlisted, listAnswer, rowAfter}
 
 module _ (s : Section) (a : LawAnswer) (is : a ≡ lawAnswer s) where
@@ -67,7 +67,7 @@ module _ (s : Section) (a : LawAnswer) (is : a ≡ lawAnswer s) where
             let f = lt-leb (3 * length (listed s)) (length row) (rw count at h) in
             (rw (z, there, f, count), rw (z, there, f))
 
-        pub lists : 3 * n ≤ length row → Answers (record { refusal = 0; count = n }) (words (listed s) ++ drop (3 * length (listed s)) row)
+        pub lists : 3 * n ≤ length row → Answers (record { refusal = 0; count = n }) (written (listed s) row)
         unfolding listAnswer listRefusal depthsRefusal rowAfter
         lists h =
             let z = no-refusal s is ok in
@@ -122,6 +122,6 @@ module _ (s : Section) (room : ℕ) {a : Listing} (is : a ≡ listAnswer s room)
       pick true e false h k = absurd (k refl)
       pick false e u h k = omega (arith, ltb-false 0 (length (listed s)) e)
 
-pub row-written : (s : Section) (row : List ℤ) → listRefusal s (length row) ≡ 0 → rowAfter s row ≡ words (listed s) ++ drop (3 * length (listed s)) row
+pub row-written : (s : Section) (row : List ℤ) → listRefusal s (length row) ≡ 0 → rowAfter s row ≡ written (listed s) row
 unfolding rowAfter
 row-written s row none = rw none

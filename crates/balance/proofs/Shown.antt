@@ -17,7 +17,7 @@ use Rattle.section.specs.declared.Section.{Section}
 use Rattle.section.specs.Refusal.{line, firstOf, sectionRefusal}
 use Rattle.balance.specs.declared.Listing.{Listing}
 use Rattle.balance.specs.Forces.{moment}
-use Rattle.balance.specs.Depths.{Entry, entryOf, lastDepth, kindAt, listed, words, Balances, Rising}
+use Rattle.balance.specs.Depths.{Entry, entryOf, lastDepth, kindAt, listed, words, written, Balances, Rising}
 use Rattle.balance.specs.Row.{wordAt, ReadAt, Shown, howMany}
 use Rattle.balance.specs.Answers.{depthsRefusal, listRefusal, listAnswer, rowAfter}
 use Rattle.balance.proofs.Listed.{count-kinds, words-length, word-of}
@@ -64,9 +64,6 @@ module _ (es : List Entry) (rest : List ℤ) where
   rising-words r i h = rw (read-at i (omega arith) .depth, read-at (i + 1) h .depth) (omega (arith, zarith, rising-at 0 es r i h))
 
 -- ---- of a row that a list's words are written into
-abbrev written : List Entry → List ℤ → List ℤ
-written es row = words es ++ drop (3 * length es) row
-
 past-words : (es : List Entry) (row : List ℤ) (j : ℕ) → 3 * length es ≤ j → wordAt (written es row) j ≡ wordAt row j
 past-words es row j h =
     let here : length (words es) + (j - 3 * length es) ≡ j = omega (arith, words-length es) in

@@ -10,7 +10,7 @@ use lib.Dec.{ltb, leb}
 use lib.IntN.{ℤ, pos, natAbs, _-ℤ_, _*ℤ_}
 use lib.ListN.{length}
 use borrow.Author.Tests.{lt-ltb}
-use Rattle.arith.proofs.Tests.{Decides, is-as}
+use Rattle.arith.proofs.Tests.{Decides}
 use Rattle.section.specs.declared.Section.{Section}
 use Rattle.section.specs.Refusal.{line, firstOf, sectionRefusal}
 use Rattle.section.proofs.Accepted.{accepted}
@@ -52,7 +52,7 @@ in-first [] = (λ e. absurd (false≢true e), λ w. absurd (List·Memᴰ·not-ni
 in-first (e ∷ es) = (λ t. (e, List·Memᴰ·head refl), λ w. lt-ltb 0 (length (e ∷ es)) (omega arith))
 
 pub some-depth : (s : Section) → Decides (ltb 0 (length (listed s))) (SomeDepth s)
-some-depth s = is-as (in-first (listed s)) (λ w. (w .0, listed-exactly s (w .0) .0 (w .1)), λ w. (w .0, listed-exactly s (w .0) .1 (w .1)))
+some-depth s = Iff·trans (in-first (listed s)) (λ w. (w .0, listed-exactly s (w .0) .0 (w .1)), λ w. (w .0, listed-exactly s (w .0) .1 (w .1)))
 
 fourteen-where-empty : (es : List Entry) (rest : ℕ) → (rest ≡ 14 → ⊥) → (firstOf (line (ltb 0 (length es)) 14 0) rest ≡ 14) ↔ (es ≡ [])
 fourteen-where-empty [] rest h = (λ e. refl, λ e. refl)

@@ -1,17 +1,17 @@
 -- What imbalance, moment and the list of depths answer, refusals included (document 01, 'What is refused').
 use Prim.Native.Nat.{ℕ, _*_}
 use mathlib.Core.Bool.{cond}
-use mathlib.Core.List.{List, _++_}
+use mathlib.Core.List.{List}
 use lib.Dec.{ltb, leb, eqb}
 use lib.IntN.{ℤ, pos}
-use lib.ListN.{length, drop}
+use lib.ListN.{length}
 use Rattle.arith.specs.Answers.{unlessRefused}
 use Rattle.section.specs.declared.Section.{Section}
 use Rattle.section.specs.Refusal.{line, firstOf, within, sectionRefusal}
 use Rattle.balance.specs.declared.Amount.{Amount}
 use Rattle.balance.specs.declared.Listing.{Listing}
 use Rattle.balance.specs.Forces.{imbalance, moment}
-use Rattle.balance.specs.Depths.{lastDepth, listed, words}
+use Rattle.balance.specs.Depths.{lastDepth, listed, written}
 
 -- ---- imbalance and moment at a depth: 7 to 13 first, then 18
 unfoldable pub gridRefusal : Section → ℕ → ℕ
@@ -48,6 +48,6 @@ unlisted number = record { refusal = number; count = 0 }
 unfoldable pub listAnswer : Section → ℕ → Listing
 listAnswer s room = unlessRefused (sectionRefusal s) (record { refusal = listRefusal s room; count = length (listed s) }) unlisted
 
--- the row afterwards: the words after the list stay, and on any refusal all stay
+-- the row afterwards: on any refusal all its words stay
 unfoldable pub rowAfter : Section → List ℤ → List ℤ
-rowAfter s row = cond (eqb (listRefusal s (length row)) 0) (words (listed s) ++ drop (3 * length (listed s)) row) row
+rowAfter s row = cond (eqb (listRefusal s (length row)) 0) (written (listed s) row) row

@@ -1,11 +1,11 @@
 -- Document 01, 'Strains, strips and balance': the depths that are listed, each with its kind and its moment.
-use Prim.Native.Nat.{ℕ, zero, suc, _+_, _≤_, _<_}
+use Prim.Native.Nat.{ℕ, zero, suc, _+_, _*_, _≤_, _<_}
 use mathlib.Core.Path.{_≡_}
 use mathlib.Core.Bool.{Bool, cond, _&&_, _||_}
 use mathlib.Core.List.{List, [], _∷_, _++_}
 use lib.Dec.{ltb, eqb}
 use lib.IntN.{ℤ, pos, natAbs}
-use lib.ListN.{getD}
+use lib.ListN.{length, getD, drop}
 use lib.Signed.{ltZ}
 use Rattle.section.specs.declared.Section.{Section}
 use Rattle.balance.specs.Forces.{imbalance, moment}
@@ -49,6 +49,10 @@ listed s = listTo (kindAt s) (moment s) (lastDepth s)
 unfoldable pub words : List Entry → List ℤ
 words [] = []
 words (e ∷ es) = pos (e .depth) ∷ pos (e .kind) ∷ e .moment ∷ words es
+
+-- the row that a list is written into: the words after it stay
+abbrev pub written : List Entry → List ℤ → List ℤ
+written es row = words es ++ drop (3 * length es) row
 
 -- ---- what is said of the list
 -- an entry whose depth is on the grid and has that kind and that moment

@@ -2,17 +2,16 @@
 // balance').
 ghost use mathlib.Core.Path.{_≡_};
 ghost use mathlib.Core.Bool.{cond};
-ghost use mathlib.Core.List.{_++_};
 ghost use Prim.Native.Nat.{_+_, _*_, _-_, _≤_, _<_};
 ghost use lib.IntN.{pos, natAbs, _-ℤ_, _*ℤ_};
-ghost use lib.ListN.{length, drop, replicate};
+ghost use lib.ListN.{length, replicate};
 ghost use Rattle.arith.specs.Sums.{sumZ};
 ghost use Rattle.section.specs.Accepted.{Accepted};
 ghost use Rattle.law.specs.Law.{lawOf};
 ghost use Rattle.law.specs.Stress.{rounded};
 ghost use Rattle.strips.specs.Strips.{scaleOf};
 ghost use Rattle.balance.specs.Forces.{strainScale, barAt, stripForce, stripMoment, imbalance, moment};
-ghost use Rattle.balance.specs.Depths.{lastDepth, opposite, kindAt, listed, words};
+ghost use Rattle.balance.specs.Depths.{lastDepth, opposite, kindAt, listed, written};
 ghost use Rattle.balance.specs.Code.{mostForce, mostMoment, BarSums, Kept};
 ghost use Rattle.balance.specs.Answers.{noAmount, amountAnswer, imbalanceAnswer, momentAnswer, unlisted, listAnswer, rowAfter};
 use law::Law;
@@ -274,7 +273,7 @@ fn listed_count(section: Section, kept: &[i64; 1000]) -> u32
 // Writes the list into a row that holds it.
 fn write_list(section: Section, law: Law, kept: &[i64; 1000], row: &mut [i64])
     requires { ⌜ (Accepted section) × (law ≡ lawOf section) × (Kept section (lastDepth section) (now kept)) × (3 * length (listed section) ≤ length (now row)) ⌝ }
-    ensures { λ r. ⌜ now (row .exit) ≡ words (listed section) ++ drop (3 * length (listed section)) (now (row .entry)) ⌝ }
+    ensures { λ r. ⌜ now (row .exit) ≡ written (listed section) (now (row .entry)) ⌝ }
 {
     let last = section.h as usize;
     let mut at: usize = 0;

@@ -3,12 +3,12 @@ use Prim.Native.Nat.{ℕ, _+_, _*_, _<_}
 use mathlib.Core.Path.{_≡_}
 use mathlib.Core.Bool.{true}
 use mathlib.Core.List.{List}
-use mathlib.Core.Logic.{_↔_}
+use mathlib.Core.Logic.{_↔_, Iff·trans}
 use lib.Dec.{ltb, leb, eqb}
 use lib.ListN.{length}
 use borrow.Author.Tests.{leb-true, eqb-true, le-leb, eq-eqb}
 use Rattle.arith.specs.Below.{allBelow}
-use Rattle.arith.proofs.Tests.{both, all-below, below-all, Decides, is-less, is-most, is-same, is-both, is-as}
+use Rattle.arith.proofs.Tests.{both, all-below, below-all, Decides, is-less, is-most, is-same, is-both}
 use Rattle.section.specs.Refusal.{line}
 use Rattle.section.proofs.Lines.{passes, none-of, between}
 use Rattle.book.specs.Record.{le16At, layersAt, sizeAt, recordRight, recordRefusal}
@@ -19,7 +19,7 @@ use Rattle.book.specs.Good.{LengthStands, LettersStand, IndexStands, Sta
 pub stands-alone : (r : List ℕ) → Decides (recordRight r) (StandsAlone r)
 unfolding recordRight
 stands-alone r =
-    is-as (is-both (is-both (is-same (length r) (sizeAt r 0)) (is-most (layersAt r 0) 8)) (is-same (le16At r 22) 0))
+    Iff·trans (is-both (is-both (is-same (length r) (sizeAt r 0)) (is-most (layersAt r 0) 8)) (is-same (le16At r 22) 0))
     (λ p. (p .0 .0, p .0 .1, p .1), λ p. ((p .0, p .1), p .2))
 
 pub record-stands : (r : List ℕ) → (recordRefusal r ≡ 0) ↔ StandsAlone r
@@ -35,7 +35,7 @@ module _ (s : List ℕ) where
   pub letters-stand : Decides (lettersRight s) (LettersStand s)
   unfolding lettersRight
   letters-stand =
-      is-as (is-both (is-both (is-both (is-same (letterOf s 4) 66) (is-same (letterOf s 3) 79)) (is-same (letterOf s 2) 79)) (is-same (letterOf s 1) 75))
+      Iff·trans (is-both (is-both (is-both (is-same (letterOf s 4) 66) (is-same (letterOf s 3) 79)) (is-same (letterOf s 2) 79)) (is-same (letterOf s 1) 75))
       (λ p. (p .0 .0 .0, p .0 .0 .1, p .0 .1, p .1), λ p. (((p .0, p .1), p .2), p .3))
 
   pub index-stands : Decides (indexRight s) (IndexStands s)

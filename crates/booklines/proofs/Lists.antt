@@ -2,7 +2,7 @@
 use Prim.Native.Nat.{ℕ, _+_, _*_, _-_, _≤_, _<_}
 use mathlib.Core.Path.{_≡_, sym, ap, _∙_}
 use mathlib.Core.Bool.{true}
-use mathlib.Core.List.{List, _++_}
+use mathlib.Core.List.{List}
 use native.Mathlib.Omega.{arith}
 use lib.Dec.{ltb, leb}
 use lib.IntN.{ℤ, pos}
@@ -15,7 +15,7 @@ use Rattle.section.proofs.Lines.{passed, none-of, only-first}
 use Rattle.section.proofs.Accepted.{accepted}
 use Rattle.balance.specs.declared.Listing.{Listing}
 use Rattle.balance.specs.Forces.{moment}
-use Rattle.balance.specs.Depths.{lastDepth, kindAt, entryOf, listed, words}
+use Rattle.balance.specs.Depths.{lastDepth, kindAt, entryOf, listed, words, written}
 use Rattle.balance.specs.Answers.{depthsRefusal, listRefusal, listAnswer, rowAfter}
 use Rattle.balance.proofs.Answers.{list-number, list-count, row-written}
 use Rattle.balance.proofs.Listed.{count-most, words-length, wordsOf, word-of}
@@ -53,16 +53,16 @@ module _ (s : Section) (row : List ℤ) (room : 3000 ≤ length row) {a : Listin
     count = list-count s (length row) is (lines .0)
 
     module _ (after : List ℤ) (then : after ≡ rowAfter s row) where
-      written : after ≡ words (listed s) ++ drop (3 * length (listed s)) row
-      written = then ∙ row-written s row (no-fifteen s (length row) room ∙ none)
+      filled : after ≡ written (listed s) row
+      filled = then ∙ row-written s row (no-fifteen s (length row) room ∙ none)
 
       pub has-moments : (0 < a .count) × (3 * a .count ≤ length after)
       has-moments =
-          rw (count, written)
+          rw (count, filled)
           (some, omega (arith, length-append (words (listed s)) (drop (3 * length (listed s)) row), words-length (listed s)))
 
       word : (j r : ℕ) → j < length (listed s) → r < 3 → getD after (3 * j + r) (pos 0) ≡ getD (wordsOf (entryOf (listed s) j)) r (pos 0)
-      word j r h l = rw written (word-of (listed s) _ j r h l)
+      word j r h l = rw filled (word-of (listed s) _ j r h l)
 
       pub bends :
           record {

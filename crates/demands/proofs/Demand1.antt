@@ -162,6 +162,7 @@ list-of r before is left = rw (is, left) (pick (recordRefusal r) (lone-first r))
 pub demand1 : Demand1
 unfolding drawnOf imbalanceOf momentOf shearOf
 demand1 = record {
+  free = λ c. c .free;
   section-refusal = λ κs a x e p. rw p (exactly _ _ (section-first (a .0)));
   with-layer = λ κs a x e p. layer-refuses (a .0) _ p;
   law-of = λ κs a x e p. law-refuses (a .0) p;

@@ -1,5 +1,5 @@
 -- Demand 2, by what each contract tells. Assumes nothing.
-use Prim.Native.Nat.{ℕ, _-_, _≤_}
+use Prim.Native.Nat.{ℕ, _-_}
 use mathlib.Core.Path.{_≡_, refl, sym, ap, _∙_}
 use mathlib.Core.List.{List}
 use native.Mathlib.Nat.{add-sub-cancel-left}
@@ -10,14 +10,17 @@ use Rattle.arith.proofs.Answers.{granted}
 use Rattle.section.specs.declared.Layer.{Layer}
 use Rattle.section.specs.declared.Section.{Section}
 use Rattle.section.specs.declared.Added.{Added}
-use Rattle.section.specs.Section.{noLayer}
 use Rattle.section.specs.Refusal.{sectionRefusal}
+use Rattle.section.specs.Accepted.{Accepted}
 use Rattle.section.specs.Added.{layerRefusal, withLayer, addedAnswer}
 use Rattle.section.proofs.Accepted.{layers-are, accepted-exactly}
 use Rattle.section.proofs.Inserted.{layers-added, added-right}
 use Rattle.law.specs.declared.LawAnswer.{LawAnswer}
 use Rattle.law.specs.Law.{lawOf, lawAnswer}
 use Rattle.law.specs.Law as Law
+use Rattle.law.specs.Stress.{Stress, size}
+use Rattle.law.specs.Sizes.{sizeIn}
+use Rattle.law.proofs.Sizes.{small-law}
 use Rattle.law.proofs.Answers.{passes}
 use Rattle.drawn.specs.declared.Drawn.{Drawn}
 use Rattle.drawn.specs.Drawn.{pointAt, drawnRefusal, drawn, drawnAnswer}
@@ -32,7 +35,7 @@ use Rattle.shear.proofs.Theorems.{square-root, cube-root, axial-floor}
 use Rattle.book.specs.declared.BookAnswer.{BookAnswer}
 use Rattle.book.specs.declared.RecordAnswer.{RecordAnswer}
 use Rattle.book.specs.declared.SectionAnswer.{SectionAnswer}
-use Rattle.book.specs.Record.{layersAt, recordRefusal, layerIn, sectionIn, sectionAnswer}
+use Rattle.book.specs.Record.{recordRefusal, sectionIn, sectionAnswer}
 use Rattle.book.specs.Record as Record
 use Rattle.book.specs.Book.{countOf, bookRefusal, noBook, bookAnswer, askedRefusal, noRecord, recordAnswer, recordOf}
 use Rattle.book.specs.Good.{Shows}
@@ -43,10 +46,14 @@ use Rattle.class.specs.Class.{classRefusal, classAnswer}
 use Rattle.class.specs.Class as Class
 use Rattle.panel.specs.Face.{drawnOf, imbalanceOf, momentOf, listOf, rowOf, shearOf}
 use Rattle.demands.specs.Table.{First, askedLines}
-use Rattle.demands.specs.Demand2.{LayerAdded, ClassIs, PointIs, ListIs, PlaceIs, Demand2}
+use Rattle.demands.specs.Demand2.{LayerAdded, ZeroPast, ClassIs, PointIs, ListIs, PlaceIs, Demand2}
 use Rattle.demands.proofs.Table.{exactly, asked-first}
 
 -- ---- each answer where it is not refused
+small-size : {s : Section} → Accepted s → (t : Stress) → sizeIn (lawOf s) t ≡ size t
+unfolding sizeIn
+small-size a t = rw (small-law a)
+
 module _ (s : Section) where
   layer-is : (l : Layer) {x : Added} → x ≡ addedAnswer s l → x .refusal ≡ 0 → LayerAdded s l x
   unfolding addedAnswer
@@ -95,11 +102,11 @@ class-is fr1 fr3 is h = rw (granted (λ (x : ClassAnswer). x .refusal) (classRef
 
 -- ---- of a record that is handed over as bytes
 module _ (r : List ℕ) where
-  section-is : {x : SectionAnswer} → x ≡ sectionAnswer r → x .refusal ≡ 0 → (x .section ≡ sectionIn r) × ((j : ℕ) → layersAt r 0 ≤ j → layerIn r j ≡ noLayer)
+  section-is : {x : SectionAnswer} → x ≡ sectionAnswer r → x .refusal ≡ 0 → (x .section ≡ sectionIn r) × ZeroPast (x .section)
   unfolding sectionAnswer
   section-is is h =
       let g = granted (λ (x : SectionAnswer). x .refusal) (recordRefusal r) _ Record.refused refl is h in
-      (ap (λ (x : SectionAnswer). x .section) (g .1), λ j k. zero-past-count r j (g .0) k)
+      rw (g .1) (refl, λ j. zero-past-count r j (g .0))
 
   pub amount-of : (y : Amount) {x : Amount} → x ≡ unlessRefused (recordRefusal r) y noAmount → x .refusal ≡ 0 → x ≡ y
   amount-of y is h = granted (λ (x : Amount). x .refusal) (recordRefusal r) y noAmount refl is h .1
@@ -122,6 +129,7 @@ demand2 = record {
   law-of = λ κs a x e p. law-is (a .0) p;
   concrete-size = λ κs a x e p. p;
   bar-size = λ κs a x e p. p;
+  sizes = λ s a t. small-size a t;
   piece-at = λ κs a x e p. p;
   draw = λ κs a x e p. point-is (a .0) (a .1 .0) p;
   strip = λ κs a x e p. p;

@@ -1,8 +1,9 @@
--- What each public function's contract tells a caller, as the checker reads it off the source. Nothing here is written anew, so that a statement over
--- it can't drift from the contract: where that is weakened, the statement's proof fails.
+-- What each public function's contract asks of a caller and what it tells one, as the checker reads it off the source. Nothing here is written anew, so
+-- that a statement over it can't drift from the contract: where that tells less, the statement's proof fails, and where it asks for anything, `free` does.
 use Prim.Native.Nat.{ℕ}
 use mathlib.Core.List.{List}
-use borrow.Fn.Kinds.{PK, RK, Out}
+use contract.Lifetimes.{Lfts}
+use borrow.Fn.Kinds.{PK, RK, Dens, In, Out}
 use Rattle.section.proofs.Section.refusal.Kinds as SectionRefusal
 use Rattle.section.proofs.Section.refusal.Reads as SectionRefusalReads
 use Rattle.section.proofs.Section.with_layer.Kinds as WithLayer
@@ -68,104 +69,107 @@ use Rattle.panel.proofs.fw_depths.Reads as FwDepthsReads
 use Rattle.panel.proofs.fw_shear.Kinds as FwShear
 use Rattle.panel.proofs.fw_shear.Reads as FwShearReads
 
--- what it takes, what it gives, and what is told of these; n is the number of lifetimes in its signature
+-- what it takes and what it gives, what is asked of the one and told of both; n is the number of lifetimes in its signature
 pub record Contract (n : ℕ) : Type 3 where
   pub takes : List (PK n)
   pub gives : RK n
+  pub asked : In n takes
   pub told : Out n takes gives
+  -- it expects nothing of its caller
+  pub free : (κs : Lfts n) (a : Dens κs takes) → asked κs a
 
 abbrev pub section-refusal : Contract 0
-section-refusal = record { takes = SectionRefusal.ps; gives = SectionRefusal.r; told = SectionRefusalReads.Learnt }
+section-refusal = record { takes = SectionRefusal.ps; gives = SectionRefusal.r; asked = SectionRefusalReads.Asked; told = SectionRefusalReads.Learnt; free = λ κs a. tt }
 
 abbrev pub with-layer : Contract 0
-with-layer = record { takes = WithLayer.ps; gives = WithLayer.r; told = WithLayerReads.Learnt }
+with-layer = record { takes = WithLayer.ps; gives = WithLayer.r; asked = WithLayerReads.Asked; told = WithLayerReads.Learnt; free = λ κs a. tt }
 
 abbrev pub limit-depth : Contract 0
-limit-depth = record { takes = LimitDepth.ps; gives = LimitDepth.r; told = LimitDepthReads.Learnt }
+limit-depth = record { takes = LimitDepth.ps; gives = LimitDepth.r; asked = LimitDepthReads.Asked; told = LimitDepthReads.Learnt; free = λ κs a. tt }
 
 abbrev pub effective-depth : Contract 0
-effective-depth = record { takes = EffectiveDepth.ps; gives = EffectiveDepth.r; told = EffectiveDepthReads.Learnt }
+effective-depth = record { takes = EffectiveDepth.ps; gives = EffectiveDepth.r; asked = EffectiveDepthReads.Asked; told = EffectiveDepthReads.Learnt; free = λ κs a. tt }
 
 abbrev pub law-of : Contract 0
-law-of = record { takes = LawOf.ps; gives = LawOf.r; told = LawOfReads.Learnt }
+law-of = record { takes = LawOf.ps; gives = LawOf.r; asked = LawOfReads.Asked; told = LawOfReads.Learnt; free = λ κs a. tt }
 
 abbrev pub concrete-size : Contract 0
-concrete-size = record { takes = ConcreteSize.ps; gives = ConcreteSize.r; told = ConcreteSizeReads.Learnt }
+concrete-size = record { takes = ConcreteSize.ps; gives = ConcreteSize.r; asked = ConcreteSizeReads.Asked; told = ConcreteSizeReads.Learnt; free = λ κs a. tt }
 
 abbrev pub bar-size : Contract 0
-bar-size = record { takes = BarSize.ps; gives = BarSize.r; told = BarSizeReads.Learnt }
+bar-size = record { takes = BarSize.ps; gives = BarSize.r; asked = BarSizeReads.Asked; told = BarSizeReads.Learnt; free = λ κs a. tt }
 
 abbrev pub piece-at : Contract 0
-piece-at = record { takes = PieceAt.ps; gives = PieceAt.r; told = PieceAtReads.Learnt }
+piece-at = record { takes = PieceAt.ps; gives = PieceAt.r; asked = PieceAtReads.Asked; told = PieceAtReads.Learnt; free = λ κs a. tt }
 
 abbrev pub drawn-refused : Contract 0
-drawn-refused = record { takes = DrawnRefused.ps; gives = DrawnRefused.r; told = DrawnRefusedReads.Learnt }
+drawn-refused = record { takes = DrawnRefused.ps; gives = DrawnRefused.r; asked = DrawnRefusedReads.Asked; told = DrawnRefusedReads.Learnt; free = λ κs a. tt }
 
 abbrev pub draw : Contract 0
-draw = record { takes = Draw.ps; gives = Draw.r; told = DrawReads.Learnt }
+draw = record { takes = Draw.ps; gives = Draw.r; asked = DrawReads.Asked; told = DrawReads.Learnt; free = λ κs a. tt }
 
 abbrev pub strip : Contract 0
-strip = record { takes = Strip.ps; gives = Strip.r; told = StripReads.Learnt }
+strip = record { takes = Strip.ps; gives = Strip.r; asked = StripReads.Asked; told = StripReads.Learnt; free = λ κs a. tt }
 
 abbrev pub compressed : Contract 0
-compressed = record { takes = Compressed.ps; gives = Compressed.r; told = CompressedReads.Learnt }
+compressed = record { takes = Compressed.ps; gives = Compressed.r; asked = CompressedReads.Asked; told = CompressedReads.Learnt; free = λ κs a. tt }
 
 abbrev pub stretched : Contract 0
-stretched = record { takes = Stretched.ps; gives = Stretched.r; told = StretchedReads.Learnt }
+stretched = record { takes = Stretched.ps; gives = Stretched.r; asked = StretchedReads.Asked; told = StretchedReads.Learnt; free = λ κs a. tt }
 
 abbrev pub amount-refused : Contract 0
-amount-refused = record { takes = AmountRefused.ps; gives = AmountRefused.r; told = AmountRefusedReads.Learnt }
+amount-refused = record { takes = AmountRefused.ps; gives = AmountRefused.r; asked = AmountRefusedReads.Asked; told = AmountRefusedReads.Learnt; free = λ κs a. tt }
 
 abbrev pub listing-refused : Contract 0
-listing-refused = record { takes = ListingRefused.ps; gives = ListingRefused.r; told = ListingRefusedReads.Learnt }
+listing-refused = record { takes = ListingRefused.ps; gives = ListingRefused.r; asked = ListingRefusedReads.Asked; told = ListingRefusedReads.Learnt; free = λ κs a. tt }
 
 abbrev pub imbalance : Contract 0
-imbalance = record { takes = Imbalance.ps; gives = Imbalance.r; told = ImbalanceReads.Learnt }
+imbalance = record { takes = Imbalance.ps; gives = Imbalance.r; asked = ImbalanceReads.Asked; told = ImbalanceReads.Learnt; free = λ κs a. tt }
 
 abbrev pub moment : Contract 0
-moment = record { takes = Moment.ps; gives = Moment.r; told = MomentReads.Learnt }
+moment = record { takes = Moment.ps; gives = Moment.r; asked = MomentReads.Asked; told = MomentReads.Learnt; free = λ κs a. tt }
 
 abbrev pub depths : Contract 1
-depths = record { takes = Depths.ps; gives = Depths.r; told = DepthsReads.Learnt }
+depths = record { takes = Depths.ps; gives = Depths.r; asked = DepthsReads.Asked; told = DepthsReads.Learnt; free = λ κs a. tt }
 
 abbrev pub shear : Contract 0
-shear = record { takes = Shear.ps; gives = Shear.r; told = ShearReads.Learnt }
+shear = record { takes = Shear.ps; gives = Shear.r; asked = ShearReads.Asked; told = ShearReads.Learnt; free = λ κs a. tt }
 
 abbrev pub book : Contract 1
-book = record { takes = Book.ps; gives = Book.r; told = BookReads.Learnt }
+book = record { takes = Book.ps; gives = Book.r; asked = BookReads.Asked; told = BookReads.Learnt; free = λ κs a. tt }
 
 abbrev pub record-place : Contract 1
-record-place = record { takes = RecordPlace.ps; gives = RecordPlace.r; told = RecordPlaceReads.Learnt }
+record-place = record { takes = RecordPlace.ps; gives = RecordPlace.r; asked = RecordPlaceReads.Asked; told = RecordPlaceReads.Learnt; free = λ κs a. tt }
 
 abbrev pub record-part : Contract 1
-record-part = record { takes = RecordPart.ps; gives = RecordPart.r; told = RecordPartReads.Learnt }
+record-part = record { takes = RecordPart.ps; gives = RecordPart.r; asked = RecordPartReads.Asked; told = RecordPartReads.Learnt; free = λ κs a. tt }
 
 abbrev pub section-of : Contract 1
-section-of = record { takes = SectionOf.ps; gives = SectionOf.r; told = SectionOfReads.Learnt }
+section-of = record { takes = SectionOf.ps; gives = SectionOf.r; asked = SectionOfReads.Asked; told = SectionOfReads.Learnt; free = λ κs a. tt }
 
 abbrev pub class : Contract 0
-class = record { takes = Class.ps; gives = Class.r; told = ClassReads.Learnt }
+class = record { takes = Class.ps; gives = Class.r; asked = ClassReads.Asked; told = ClassReads.Learnt; free = λ κs a. tt }
 
 abbrev pub fw-book : Contract 1
-fw-book = record { takes = FwBook.ps; gives = FwBook.r; told = FwBookReads.Learnt }
+fw-book = record { takes = FwBook.ps; gives = FwBook.r; asked = FwBookReads.Asked; told = FwBookReads.Learnt; free = λ κs a. tt }
 
 abbrev pub fw-record : Contract 1
-fw-record = record { takes = FwRecord.ps; gives = FwRecord.r; told = FwRecordReads.Learnt }
+fw-record = record { takes = FwRecord.ps; gives = FwRecord.r; asked = FwRecordReads.Asked; told = FwRecordReads.Learnt; free = λ κs a. tt }
 
 abbrev pub fw-class : Contract 0
-fw-class = record { takes = FwClass.ps; gives = FwClass.r; told = FwClassReads.Learnt }
+fw-class = record { takes = FwClass.ps; gives = FwClass.r; asked = FwClassReads.Asked; told = FwClassReads.Learnt; free = λ κs a. tt }
 
 abbrev pub fw-draw : Contract 1
-fw-draw = record { takes = FwDraw.ps; gives = FwDraw.r; told = FwDrawReads.Learnt }
+fw-draw = record { takes = FwDraw.ps; gives = FwDraw.r; asked = FwDrawReads.Asked; told = FwDrawReads.Learnt; free = λ κs a. tt }
 
 abbrev pub fw-imbalance : Contract 1
-fw-imbalance = record { takes = FwImbalance.ps; gives = FwImbalance.r; told = FwImbalanceReads.Learnt }
+fw-imbalance = record { takes = FwImbalance.ps; gives = FwImbalance.r; asked = FwImbalanceReads.Asked; told = FwImbalanceReads.Learnt; free = λ κs a. tt }
 
 abbrev pub fw-moment : Contract 1
-fw-moment = record { takes = FwMoment.ps; gives = FwMoment.r; told = FwMomentReads.Learnt }
+fw-moment = record { takes = FwMoment.ps; gives = FwMoment.r; asked = FwMomentReads.Asked; told = FwMomentReads.Learnt; free = λ κs a. tt }
 
 abbrev pub fw-depths : Contract 2
-fw-depths = record { takes = FwDepths.ps; gives = FwDepths.r; told = FwDepthsReads.Learnt }
+fw-depths = record { takes = FwDepths.ps; gives = FwDepths.r; asked = FwDepthsReads.Asked; told = FwDepthsReads.Learnt; free = λ κs a. tt }
 
 abbrev pub fw-shear : Contract 1
-fw-shear = record { takes = FwShear.ps; gives = FwShear.r; told = FwShearReads.Learnt }
+fw-shear = record { takes = FwShear.ps; gives = FwShear.r; asked = FwShearReads.Asked; told = FwShearReads.Learnt; free = λ κs a. tt }

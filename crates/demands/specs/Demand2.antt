@@ -4,20 +4,20 @@ use Prim.Native.Nat.{ℕ, _+_, _*_, _≤_, _<_}
 use mathlib.Core.Path.{_≡_}
 use mathlib.Core.Bool.{true, false}
 use mathlib.Core.Logic.{_↔_}
-use mathlib.Core.List.{List, _++_}
+use mathlib.Core.List.{List}
 use lib.Dec.{leb}
 use lib.IntN.{ℤ, pos, _+ℤ_, _*ℤ_}
-use lib.ListN.{length, drop}
+use lib.ListN.{length}
 use lib.Signed.{_≤ℤ_, _<ℤ_}
 use Rattle.arith.specs.Largest.{Largest, largest}
 use Rattle.section.specs.declared.Layer.{Layer}
 use Rattle.section.specs.declared.Section.{Section}
 use Rattle.section.specs.declared.Added.{Added}
-use Rattle.section.specs.Section.{noLayer, layersOf}
+use Rattle.section.specs.Section.{noLayer, layerAt, layersOf}
 use Rattle.section.specs.Accepted.{LayersIn, Accepted}
 use Rattle.section.specs.Added.{inserted, withLayer}
 use Rattle.law.specs.Law.{limitDepth, effectiveDepth, lawOf}
-use Rattle.law.specs.Stress.{signed, size, concrete, bar}
+use Rattle.law.specs.Stress.{Stress, signed, size, concrete, bar}
 use Rattle.law.specs.Sizes.{sizeIn}
 use Rattle.drawn.specs.declared.Drawn.{Drawn}
 use Rattle.drawn.specs.Drawn.{PointNear, pointAt}
@@ -25,10 +25,10 @@ use Rattle.drawn.specs.Pieces.{evaluated}
 use Rattle.strips.specs.Strips.{stripSize, runOf}
 use Rattle.balance.specs.declared.Listing.{Listing}
 use Rattle.balance.specs.Forces.{concreteArea, loadOf, imbalance, moment}
-use Rattle.balance.specs.Depths.{listed, words}
+use Rattle.balance.specs.Depths.{listed, written}
 use Rattle.shear.specs.Shear.{squared, cubed, axialShare, resistance}
 use Rattle.book.specs.declared.RecordAnswer.{RecordAnswer}
-use Rattle.book.specs.Record.{layersAt, sizeAt, layerIn, sectionIn}
+use Rattle.book.specs.Record.{sizeAt, sectionIn}
 use Rattle.book.specs.Book.{countOf, startOf, partOf}
 use Rattle.book.specs.Good.{Shows}
 use Rattle.class.specs.declared.ClassAnswer.{ClassAnswer}
@@ -40,6 +40,10 @@ use Rattle.demands.specs.Table.{First, askedLines}
 abbrev pub LayerAdded : Section → Layer → Added → Type 0
 LayerAdded s l x = (x .section ≡ withLayer s l) × (layersOf (x .section) ≡ inserted l (layersOf s)) × LayersIn (x .section)
 
+-- places past the layer count are zero
+abbrev pub ZeroPast : Section → Type 0
+ZeroPast s = (j : ℕ) → s .count ≤ j → layerAt (s .layers) j ≡ noLayer
+
 abbrev pub ClassIs : ℕ → ℕ → ClassAnswer → Type 0
 ClassIs fr1 fr3 x = (x .step ≡ stepOf fr1) × (x .letter ≡ letterOf (stepOf fr1) fr3)
 
@@ -49,23 +53,24 @@ PointIs s e x = (x .point ≡ pointAt (lawOf s) e) × PointNear (lawOf s) e (x .
 
 -- the list's words, then the row's own
 abbrev pub ListIs : Section → List ℤ → Listing → List ℤ → Type 0
-ListIs s before x after = (x .count ≡ length (listed s)) × (after ≡ words (listed s) ++ drop (3 * length (listed s)) before)
+ListIs s before x after = (x .count ≡ length (listed s)) × (after ≡ written (listed s) before)
 
 -- the record's place, inside the book; what lies there shows the record
 abbrev pub PlaceIs : List ℕ → ℕ → RecordAnswer → Type 0
 PlaceIs bytes i x = (x .at ≡ startOf bytes i) × (x .len ≡ sizeAt bytes (startOf bytes i)) × (x .at + x .len ≤ length bytes) × Shows bytes i (partOf bytes (x .at) (x .len))
 
--- of every call of each public function: what it answers where it does not refuse
+-- of every call of each public function that answers anything: what, where it does not refuse
 pub record Demand2 : Type 0 where
   -- a section
   pub section-refusal : Every.section-refusal (λ s x. (x ≡ 0) ↔ Accepted s)
   pub with-layer : Every.with-layer (λ s depth area x. x .refusal ≡ 0 → LayerAdded s (record { depth = depth; area = area }) x)
-  -- its law, and the stress of concrete and bars at the strain 500 t / q
+  -- its law, and the stress of concrete and bars at the strain 500 t / q; 0 is answered only of a law that no accepted section has
   pub limit-depth : Every.limit-depth (λ s x. x ≡ limitDepth s)
   pub effective-depth : Every.effective-depth (λ s x. x ≡ effectiveDepth s)
   pub law-of : Every.law-of (λ s x. x .refusal ≡ 0 → x .law ≡ lawOf s)
   pub concrete-size : Every.concrete-size (λ l pulls t q x. x ≡ sizeIn l (concrete l pulls (500 * t) q))
   pub bar-size : Every.bar-size (λ l t q x. x ≡ size (bar l true (500 * t) q))
+  pub sizes : (s : Section) → Accepted s → (t : Stress) → sizeIn (lawOf s) t ≡ size t
   pub piece-at : Every.piece-at (λ piece e x. x ≡ evaluated piece e)
   pub draw : Every.draw (λ s e x. x .refusal ≡ 0 → PointIs s e x)
   -- strips, and the sums over them
@@ -85,7 +90,7 @@ pub record Demand2 : Type 0 where
   pub book : Every.book (λ bytes x. x .refusal ≡ 0 → x .count ≡ countOf bytes)
   pub record-place : Every.record-place (λ bytes i x. x .refusal ≡ 0 → PlaceIs bytes i x)
   pub record-part : Every.record-part (λ bytes i part. First (askedLines bytes i) 0 → Shows bytes i part)
-  pub section-of : Every.section-of (λ part x. x .refusal ≡ 0 → (x .section ≡ sectionIn part) × ((j : ℕ) → layersAt part 0 ≤ j → layerIn part j ≡ noLayer))
+  pub section-of : Every.section-of (λ part x. x .refusal ≡ 0 → (x .section ≡ sectionIn part) × ZeroPast (x .section))
   -- a class
   pub class : Every.class (λ fr1 fr3 x. x .refusal ≡ 0 → ClassIs fr1 fr3 x)
   -- the C face

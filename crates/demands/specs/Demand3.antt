@@ -19,7 +19,7 @@ use Rattle.book.specs.Record.{sectionIn}
 use Rattle.book.specs.Good.{StandsAlone}
 use Rattle.demands.specs.Every as Every
 
--- 2. an imbalance lies within one kPa times the area of the exact one, a moment within that times h
+-- an imbalance within one kPa times the area of the exact one, a moment within that times h
 abbrev pub ImbalanceNear : Section → ℕ → ℤ → Type 0
 ImbalanceNear s x amount = natAbs (exactImbalance s x -ℤ (pos (common s x) *ℤ amount)) < common s x * area s
 
@@ -62,6 +62,7 @@ pub record ExactSums (s : Section) : Type 0 where
 pub record Demand3 : Type 0 where
   pub depths : Every.depths (λ s before x after. Accepted s → Lists s before x after)
   pub fw-depths : Every.fw-depths (λ part before x after. StandsAlone part → Accepted (sectionIn part) → Lists (sectionIn part) before x after)
+  -- 2. of each amount that is answered
   pub imbalance-near : Every.imbalance (λ s d x. x .refusal ≡ 0 → ImbalanceNear s d (x .amount))
   pub fw-imbalance-near : Every.fw-imbalance (λ part d x. x .refusal ≡ 0 → ImbalanceNear (sectionIn part) d (x .amount))
   pub moment-near : Every.moment (λ s d x. x .refusal ≡ 0 → MomentNear s d (x .amount))

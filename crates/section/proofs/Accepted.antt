@@ -2,12 +2,12 @@
 use Prim.Native.Nat.{ℕ, _*_, _-_, _%_, _<_}
 use mathlib.Core.Path.{_≡_, sym, _∙_}
 use mathlib.Core.Bool.{true, not, _&&_, _||_}
-use mathlib.Core.Logic.{_↔_}
+use mathlib.Core.Logic.{_↔_, Iff·trans}
 use native.Mathlib.Omega.{arith}
 use lib.Dec.{ltb, leb, eqb}
 use lib.IntN.{natAbs}
 use borrow.Author.Tests.{not-true, le-leb}
-use Rattle.arith.proofs.Tests.{Decides, is-less, is-most, is-same, is-both, is-unless-zero, is-as}
+use Rattle.arith.proofs.Tests.{Decides, is-less, is-most, is-same, is-both, is-unless-zero}
 use Rattle.section.specs.declared.Layer.{Layer}
 use Rattle.section.specs.declared.Section.{Section}
 use Rattle.section.specs.Section.{layerAt, layersOf, inRange, layersRight}
@@ -99,7 +99,7 @@ module _ (s : Section) where
 
     pub takes-layer : Decides (inRange (s .h) l && not (taken (l .depth) (layersOf s)) && ltb (s .count) 8 && layersRight s) (TakesLayer s l)
     takes-layer =
-        is-as (is-both (is-both (is-both (layer-in (s .h) l, in-layer (s .h) l) untaken-is) (is-less (s .count) 8)) layers-are)
+        Iff·trans (is-both (is-both (is-both (layer-in (s .h) l, in-layer (s .h) l) untaken-is) (is-less (s .count) 8)) layers-are)
         (λ p. record { layer = p .0 .0 .0; free = p .0 .0 .1; room = p .0 .1; there = p .1 }, λ t. (((t .layer, t .free), t .room), t .there))
       where
         untaken-is : Decides (not (taken (l .depth) (layersOf s))) ((j : ℕ) → j < s .count → l .depth ≡ layerAt (s .layers) j .depth → ⊥)
