@@ -1,20 +1,17 @@
 -- Demand 1, by what each contract tells and the table. Assumes nothing.
 use Prim.Native.Nat.{ℕ, zero, suc}
 use mathlib.Core.Path.{_≡_, refl}
-use mathlib.Core.Bool.{true}
 use mathlib.Core.Logic.{_↔_, Iff·trans}
-use mathlib.Core.List.{List, [], _++_, append-nil}
+use mathlib.Core.List.{List, [], _++_}
 use native.Mathlib.Omega.{arith}
 use lib.Dec.{eqb·suc-zero}
 use lib.IntN.{ℤ, pos}
 use lib.ListN.{length}
-use borrow.Author.Tests.{ne-eqb}
 use Rattle.arith.specs.Answers.{unlessRefused}
-use Rattle.arith.proofs.Answers.{of-answer}
 use Rattle.section.specs.declared.Layer.{Layer}
 use Rattle.section.specs.declared.Section.{Section}
 use Rattle.section.specs.declared.Added.{Added}
-use Rattle.section.specs.Refusal.{firstOf, sectionRefusal}
+use Rattle.section.specs.Refusal.{sectionRefusal}
 use Rattle.section.specs.Added.{layerRefusal, addedAnswer}
 use Rattle.law.specs.declared.LawAnswer.{LawAnswer}
 use Rattle.law.specs.Law.{noLaw, lawAnswer}
@@ -24,7 +21,7 @@ use Rattle.drawn.specs.Drawn.{noPoint, drawnRefusal, drawnAnswer}
 use Rattle.drawn.specs.Drawn as Drawn
 use Rattle.balance.specs.declared.Amount.{Amount}
 use Rattle.balance.specs.declared.Listing.{Listing}
-use Rattle.balance.specs.Answers.{gridRefusal, noAmount, amountAnswer, unlisted, listAnswer, rowAfter}
+use Rattle.balance.specs.Answers.{gridRefusal, amountAnswer, unlisted, listAnswer, rowAfter}
 use Rattle.balance.proofs.Answers.{list-number, list-needed, list-none}
 use Rattle.balance.proofs.Shown.{row-kept}
 use Rattle.shear.specs.Shear.{shearRefusal, shearAnswer}
@@ -33,7 +30,7 @@ use Rattle.book.specs.declared.RecordAnswer.{RecordAnswer}
 use Rattle.book.specs.declared.SectionAnswer.{SectionAnswer}
 use Rattle.book.specs.Record.{noSection, recordRefusal, sectionIn, sectionAnswer}
 use Rattle.book.specs.Record as Record
-use Rattle.book.specs.Book.{bookRefusal, noBook, bookAnswer, askedRefusal, noRecord, recordAnswer, recordOf}
+use Rattle.book.specs.Book.{bookRefusal, bookAnswer, askedRefusal, recordAnswer, recordOf}
 use Rattle.book.proofs.Parts.{empty-exactly}
 use Rattle.class.specs.declared.ClassAnswer.{ClassAnswer}
 use Rattle.class.specs.Class.{classRefusal, classAnswer}
@@ -41,90 +38,54 @@ use Rattle.class.specs.Class as Class
 use Rattle.panel.specs.Face.{drawnOf, imbalanceOf, momentOf, listOf, rowOf, shearOf}
 use Rattle.demands.specs.Table.{Line, First, bookLines, askedLines, loneLines, sectionLines, layerLines, depthsLines, shearLines, classLines, strainLines, gridLines}
 use Rattle.demands.specs.Demand1.{Refuses, RefusesList, Demand1}
-use Rattle.demands.proofs.Table.{exactly, numbered, first-most, then-first, book-first, asked-first, lone-first, section-first, layer-first, list-first}
+use Rattle.demands.proofs.Shapes.{sections, laws, points, amounts, books, places, records, classes, alone, of-record}
+use Rattle.demands.proofs.Table.{exactly, first-most, then-first, book-first, asked-first, lone-first, section-first, layer-first, list-first}
 use Rattle.demands.proofs.Table.{shear-first, class-first, strain-first, grid-first, not-fifteen}
-
--- ---- an answer that is refused by lines, else one that may be refused by lines after them
-module _ {X : Type 0} (number : X → ℕ) (zeros : X → Type 0) (refused : ℕ → X) (bears : (k : ℕ) → number (refused k) ≡ k) (none : (k : ℕ) → zeros (refused k)) where
-  then :
-      (ls ms : List Line) (n : ℕ) (y : X) → numbered 18 ls ≡ true → First ls n → Refuses ms (number y) (zeros y)
-      → {x : X} → x ≡ unlessRefused n y refused → Refuses (ls ++ ms) (number x) (zeros x)
-  then ls ms n y t f inner is = rw is (of-answer (λ v. Refuses (ls ++ ms) (number v) (zeros v)) n y refused passed stopped)
-    where
-      first : First (ls ++ ms) (firstOf n (number y))
-      first = then-first 18 ls ms n (number y) t f (inner .number (number y) .0 refl)
-
-      passed : n ≡ 0 → Refuses (ls ++ ms) (number y) (zeros y)
-      passed e = record { number = exactly (ls ++ ms) (number y) (rw e at first); beside = inner .beside }
-
-      stopped : (n ≡ 0 → ⊥) → Refuses (ls ++ ms) (number (refused n)) (zeros (refused n))
-      stopped h = record { number = rw (bears n) (exactly (ls ++ ms) n (rw (ne-eqb n 0 h) at first)); beside = λ k. none n }
-
-  alone : (ls : List Line) (n : ℕ) (y : X) → numbered 18 ls ≡ true → First ls n → number y ≡ 0 → {x : X} → x ≡ unlessRefused n y refused → Refuses ls (number x) (zeros x)
-  unfolding First
-  alone ls n y t f e is = rw (append-nil ls) at (then ls [] n y t f (record { number = exactly [] (number y) e; beside = λ h. absurd (h e) }) is)
 
 -- ---- each answer
 module _ (s : Section) where
   law-refuses : {x : LawAnswer} → x ≡ lawAnswer s → Refuses (sectionLines s) (x .refusal) (x .law ≡ noLaw)
   unfolding lawAnswer
-  law-refuses = alone (λ (x : LawAnswer). x .refusal) (λ x. x .law ≡ noLaw) Law.refused (λ k. refl) (λ k. refl) (sectionLines s) (sectionRefusal s) _ refl (section-first s) refl
+  law-refuses = alone laws (sectionLines s) (sectionRefusal s) _ refl (section-first s) refl
 
   layer-refuses : (l : Layer) {x : Added} → x ≡ addedAnswer s l → Refuses (layerLines s l) (x .refusal) (x .section ≡ s)
   unfolding addedAnswer
-  layer-refuses l =
-      alone (λ (x : Added). x .refusal) (λ x. x .section ≡ s) (λ k. record { refusal = k; section = s }) (λ k. refl) (λ k. refl) (layerLines s l) (layerRefusal s l) _ refl
-      (layer-first s l) refl
+  layer-refuses l = alone (sections s) (layerLines s l) (layerRefusal s l) _ refl (layer-first s l) refl
 
   draw-refuses : (e : ℤ) {x : Drawn} → x ≡ drawnAnswer s e → Refuses (strainLines s e) (x .refusal) (x .point ≡ noPoint)
   unfolding drawnAnswer
-  draw-refuses e = alone (λ (x : Drawn). x .refusal) (λ x. x .point ≡ noPoint) Drawn.refused (λ k. refl) (λ k. refl) (strainLines s e) (drawnRefusal s e) _ refl (strain-first s e) refl
+  draw-refuses e = alone points (strainLines s e) (drawnRefusal s e) _ refl (strain-first s e) refl
 
   amount-refuses : (d : ℕ) (z : ℤ) {x : Amount} → x ≡ amountAnswer s d z → Refuses (gridLines s d) (x .refusal) (x .amount ≡ pos 0)
   unfolding amountAnswer
-  amount-refuses d z = alone (λ (x : Amount). x .refusal) (λ x. x .amount ≡ pos 0) noAmount (λ k. refl) (λ k. refl) (gridLines s d) (gridRefusal s d) _ refl (grid-first s d) refl
+  amount-refuses d z = alone amounts (gridLines s d) (gridRefusal s d) _ refl (grid-first s d) refl
 
   shear-refuses : {x : Amount} → x ≡ shearAnswer s → Refuses (shearLines s) (x .refusal) (x .amount ≡ pos 0)
   unfolding shearAnswer
-  shear-refuses = alone (λ (x : Amount). x .refusal) (λ x. x .amount ≡ pos 0) noAmount (λ k. refl) (λ k. refl) (shearLines s) (shearRefusal s) _ refl (shear-first s) refl
+  shear-refuses = alone amounts (shearLines s) (shearRefusal s) _ refl (shear-first s) refl
 
 module _ (s : List ℕ) where
   book-refuses : {x : BookAnswer} → x ≡ bookAnswer s → Refuses (bookLines s) (x .refusal) (x .count ≡ 0)
   unfolding bookAnswer
-  book-refuses = alone (λ (x : BookAnswer). x .refusal) (λ x. x .count ≡ 0) noBook (λ k. refl) (λ k. refl) (bookLines s) (bookRefusal s) _ refl (book-first s) refl
+  book-refuses = alone books (bookLines s) (bookRefusal s) _ refl (book-first s) refl
 
   place-refuses : (i : ℕ) {x : RecordAnswer} → x ≡ recordAnswer s i → Refuses (askedLines s i) (x .refusal) ((x .at ≡ 0) × (x .len ≡ 0))
   unfolding recordAnswer
-  place-refuses i =
-      alone (λ (x : RecordAnswer). x .refusal) (λ x. (x .at ≡ 0) × (x .len ≡ 0)) noRecord (λ k. refl) (λ k. (refl, refl)) (askedLines s i) (askedRefusal s i) _ refl
-      (asked-first s i) refl
+  place-refuses i = alone places (askedLines s i) (askedRefusal s i) _ refl (asked-first s i) refl
 
   section-refuses : {x : SectionAnswer} → x ≡ sectionAnswer s → Refuses (loneLines s) (x .refusal) (x .section ≡ noSection)
   unfolding sectionAnswer
-  section-refuses =
-      alone (λ (x : SectionAnswer). x .refusal) (λ x. x .section ≡ noSection) Record.refused (λ k. refl) (λ k. refl) (loneLines s) (recordRefusal s) _ refl (lone-first s) refl
+  section-refuses = alone records (loneLines s) (recordRefusal s) _ refl (lone-first s) refl
 
 class-refuses : (fr1 fr3 : ℕ) {x : ClassAnswer} → x ≡ classAnswer fr1 fr3 → Refuses (classLines fr1 fr3) (x .refusal) ((x .step ≡ 0) × (x .letter ≡ 0))
 unfolding classAnswer
-class-refuses fr1 fr3 =
-    alone (λ (x : ClassAnswer). x .refusal) (λ x. (x .step ≡ 0) × (x .letter ≡ 0)) Class.refused (λ k. refl) (λ k. (refl, refl)) (classLines fr1 fr3) (classRefusal fr1 fr3) _ refl
-    (class-first fr1 fr3) refl
+class-refuses fr1 fr3 = alone classes (classLines fr1 fr3) (classRefusal fr1 fr3) _ refl (class-first fr1 fr3) refl
 
 -- the part is empty exactly where a line holds
 part-refused : (s : List ℕ) (i : ℕ) → (recordOf s i ≡ []) ↔ (First (askedLines s i) 0 → ⊥)
 part-refused s i =
     let t = exactly (askedLines s i) (askedRefusal s i) (asked-first s i) 0 in
     Iff·trans (empty-exactly s i) (λ h f. h (t .1 f), λ h e. h (t .0 e))
-
--- ---- of a record: 6 first
-module _ (r : List ℕ) where
-  of-point : {ms : List Line} (y : Drawn) → Refuses ms (y .refusal) (y .point ≡ noPoint) → {x : Drawn} → x ≡ unlessRefused (recordRefusal r) y Drawn.refused
-      → Refuses (loneLines r ++ ms) (x .refusal) (x .point ≡ noPoint)
-  of-point {ms} y = then (λ (x : Drawn). x .refusal) (λ x. x .point ≡ noPoint) Drawn.refused (λ k. refl) (λ k. refl) (loneLines r) ms (recordRefusal r) y refl (lone-first r)
-
-  of-amount : {ms : List Line} (y : Amount) → Refuses ms (y .refusal) (y .amount ≡ pos 0) → {x : Amount} → x ≡ unlessRefused (recordRefusal r) y noAmount
-      → Refuses (loneLines r ++ ms) (x .refusal) (x .amount ≡ pos 0)
-  of-amount {ms} y = then (λ (x : Amount). x .refusal) (λ x. x .amount ≡ pos 0) noAmount (λ k. refl) (λ k. refl) (loneLines r) ms (recordRefusal r) y refl (lone-first r)
 
 -- ---- the list
 module _ (s : Section) (before : List ℤ) where
@@ -182,9 +143,9 @@ demand1 = record {
   fw-book = λ κs a x e p. book-refuses (a .0 .now) p;
   fw-record = λ κs a x e p. place-refuses (a .0 .now) (a .1 .0) p;
   fw-class = λ κs a x e p. class-refuses (a .0) (a .1 .0) p;
-  fw-draw = λ κs a x e p. of-point (a .0 .now) _ (draw-refuses (sectionIn (a .0 .now)) (a .1 .0) refl) p;
-  fw-imbalance = λ κs a x e p. of-amount (a .0 .now) _ (amount-refuses (sectionIn (a .0 .now)) (a .1 .0) _ refl) p;
-  fw-moment = λ κs a x e p. of-amount (a .0 .now) _ (amount-refuses (sectionIn (a .0 .now)) (a .1 .0) _ refl) p;
+  fw-draw = λ κs a x e p. of-record points (a .0 .now) _ _ (draw-refuses (sectionIn (a .0 .now)) (a .1 .0) refl) p;
+  fw-imbalance = λ κs a x e p. of-record amounts (a .0 .now) _ _ (amount-refuses (sectionIn (a .0 .now)) (a .1 .0) _ refl) p;
+  fw-moment = λ κs a x e p. of-record amounts (a .0 .now) _ _ (amount-refuses (sectionIn (a .0 .now)) (a .1 .0) _ refl) p;
   fw-depths = λ κs a x e p. list-of (a .0 .now) (a .1 .0 .now) (p .0) (p .1);
-  fw-shear = λ κs a x e p. of-amount (a .0 .now) _ (shear-refuses (sectionIn (a .0 .now)) refl) p;
+  fw-shear = λ κs a x e p. of-record amounts (a .0 .now) _ _ (shear-refuses (sectionIn (a .0 .now)) refl) p;
 }

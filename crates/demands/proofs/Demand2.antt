@@ -5,7 +5,6 @@ use mathlib.Core.List.{List}
 use native.Mathlib.Nat.{add-sub-cancel-left}
 use lib.IntN.{ℤ, pos}
 use lib.ListN.{length}
-use Rattle.arith.specs.Answers.{unlessRefused}
 use Rattle.arith.proofs.Answers.{granted}
 use Rattle.section.specs.declared.Layer.{Layer}
 use Rattle.section.specs.declared.Section.{Section}
@@ -28,7 +27,7 @@ use Rattle.drawn.specs.Drawn as Drawn
 use Rattle.drawn.proofs.Within.{point-near}
 use Rattle.balance.specs.declared.Amount.{Amount}
 use Rattle.balance.specs.declared.Listing.{Listing}
-use Rattle.balance.specs.Answers.{answered, noAmount, unlisted, listAnswer, rowAfter}
+use Rattle.balance.specs.Answers.{answered, unlisted, listAnswer, rowAfter}
 use Rattle.balance.proofs.Answers.{amount-is, list-number, list-count, row-written}
 use Rattle.shear.specs.Shear.{resistance, shearRefusal, shearAnswer}
 use Rattle.shear.proofs.Theorems.{square-root, cube-root, axial-floor}
@@ -37,7 +36,7 @@ use Rattle.book.specs.declared.RecordAnswer.{RecordAnswer}
 use Rattle.book.specs.declared.SectionAnswer.{SectionAnswer}
 use Rattle.book.specs.Record.{recordRefusal, sectionIn, sectionAnswer}
 use Rattle.book.specs.Record as Record
-use Rattle.book.specs.Book.{countOf, bookRefusal, noBook, bookAnswer, askedRefusal, noRecord, recordAnswer, recordOf}
+use Rattle.book.specs.Book.{countOf, bookRefusal, bookAnswer, askedRefusal, recordAnswer, recordOf}
 use Rattle.book.specs.Good.{Shows}
 use Rattle.book.proofs.Parts.{part-shows, place-inside, place-part}
 use Rattle.book.proofs.Places.{zero-past-count}
@@ -47,6 +46,7 @@ use Rattle.class.specs.Class as Class
 use Rattle.panel.specs.Face.{drawnOf, imbalanceOf, momentOf, listOf, rowOf, shearOf}
 use Rattle.demands.specs.Table.{First, askedLines}
 use Rattle.demands.specs.Demand2.{LayerAdded, ZeroPast, ClassIs, PointIs, ListIs, PlaceIs, Demand2}
+use Rattle.demands.proofs.Shapes.{sections, points, amounts, books, places, records, classes, grants}
 use Rattle.demands.proofs.Table.{exactly, asked-first}
 
 -- ---- each answer where it is not refused
@@ -58,7 +58,7 @@ module _ (s : Section) where
   layer-is : (l : Layer) {x : Added} → x ≡ addedAnswer s l → x .refusal ≡ 0 → LayerAdded s l x
   unfolding addedAnswer
   layer-is l is h =
-      let g = granted (λ (x : Added). x .refusal) (layerRefusal s l) (record { refusal = 0; section = withLayer s l }) (λ k. record { refusal = k; section = s }) refl is h in
+      let g = grants (sections s) (layerRefusal s l) (record { refusal = 0; section = withLayer s l }) is h in
       rw (g .1) (refl, layers-added s l, layers-are (withLayer s l) .0 (added-right s l (g .0)))
 
   law-is : {x : LawAnswer} → x ≡ lawAnswer s → x .refusal ≡ 0 → x .law ≡ lawOf s
@@ -67,12 +67,12 @@ module _ (s : Section) where
   point-is : (e : ℤ) {x : Drawn} → x ≡ drawnAnswer s e → x .refusal ≡ 0 → PointIs s e x
   unfolding drawnAnswer
   point-is e is h =
-      let g = granted (λ (x : Drawn). x .refusal) (drawnRefusal s e) (drawn (pointAt (lawOf s) e)) Drawn.refused refl is h in
+      let g = grants points (drawnRefusal s e) (drawn (pointAt (lawOf s) e)) is h in
       (ap (λ (x : Drawn). x .point) (g .1), rw (← is) at (point-near s e (g .0)))
 
   shear-is : {x : Amount} → x ≡ shearAnswer s → x .refusal ≡ 0 → x .amount ≡ pos (resistance s)
   unfolding shearAnswer
-  shear-is is h = ap (λ (x : Amount). x .amount) (granted (λ (x : Amount). x .refusal) (shearRefusal s) (answered (pos (resistance s))) noAmount refl is h .1)
+  shear-is is h = ap (λ (x : Amount). x .amount) (grants amounts (shearRefusal s) (answered (pos (resistance s))) is h .1)
 
   list-is : (before : List ℤ) {x : Listing} {after : List ℤ} → x ≡ listAnswer s (length before) → after ≡ rowAfter s before → x .refusal ≡ 0 → ListIs s before x after
   unfolding listAnswer
@@ -84,7 +84,7 @@ module _ (s : Section) where
 module _ (s : List ℕ) where
   book-is : {x : BookAnswer} → x ≡ bookAnswer s → x .refusal ≡ 0 → x .count ≡ countOf s
   unfolding bookAnswer
-  book-is is h = ap (λ (x : BookAnswer). x .count) (granted (λ (x : BookAnswer). x .refusal) (bookRefusal s) _ noBook refl is h .1)
+  book-is is h = ap (λ (x : BookAnswer). x .count) (grants books (bookRefusal s) _ is h .1)
 
   part-is : (i : ℕ) → First (askedLines s i) 0 → Shows s i (recordOf s i)
   part-is i f = part-shows s i (exactly _ _ (asked-first s i) 0 .1 f)
@@ -92,24 +92,21 @@ module _ (s : List ℕ) where
   place-is : (i : ℕ) {x : RecordAnswer} → x ≡ recordAnswer s i → x .refusal ≡ 0 → PlaceIs s i x
   unfolding recordAnswer
   place-is i {x} is h =
-      let g = granted (λ (x : RecordAnswer). x .refusal) (askedRefusal s i) _ noRecord refl is h in
+      let g = grants places (askedRefusal s i) _ is h in
       let shows = rw (← place-part s i is, add-sub-cancel-left (x .at) (x .len)) at (part-shows s i (g .0)) in
       (ap (λ (x : RecordAnswer). x .at) (g .1), ap (λ (x : RecordAnswer). x .len) (g .1), place-inside s i is, shows)
 
 class-is : (fr1 fr3 : ℕ) {x : ClassAnswer} → x ≡ classAnswer fr1 fr3 → x .refusal ≡ 0 → ClassIs fr1 fr3 x
 unfolding classAnswer
-class-is fr1 fr3 is h = rw (granted (λ (x : ClassAnswer). x .refusal) (classRefusal fr1 fr3) _ Class.refused refl is h .1) (refl, refl)
+class-is fr1 fr3 is h = rw (grants classes (classRefusal fr1 fr3) _ is h .1) (refl, refl)
 
 -- ---- of a record that is handed over as bytes
 module _ (r : List ℕ) where
   section-is : {x : SectionAnswer} → x ≡ sectionAnswer r → x .refusal ≡ 0 → (x .section ≡ sectionIn r) × ZeroPast (x .section)
   unfolding sectionAnswer
   section-is is h =
-      let g = granted (λ (x : SectionAnswer). x .refusal) (recordRefusal r) _ Record.refused refl is h in
+      let g = grants records (recordRefusal r) _ is h in
       rw (g .1) (refl, λ j. zero-past-count r j (g .0))
-
-  pub amount-of : (y : Amount) {x : Amount} → x ≡ unlessRefused (recordRefusal r) y noAmount → x .refusal ≡ 0 → x ≡ y
-  amount-of y is h = granted (λ (x : Amount). x .refusal) (recordRefusal r) y noAmount refl is h .1
 
   list-of :
       (before : List ℤ) {x : Listing} {after : List ℤ} → x ≡ listOf r (length before) → after ≡ rowOf r before
@@ -150,9 +147,9 @@ demand2 = record {
   fw-book = λ κs a x e p. book-is (a .0 .now) p;
   fw-record = λ κs a x e p. place-is (a .0 .now) (a .1 .0) p;
   fw-class = λ κs a x e p. class-is (a .0) (a .1 .0) p;
-  fw-draw = λ κs a x e p h. point-is (sectionIn (a .0 .now)) (a .1 .0) (granted (λ (x : Drawn). x .refusal) (recordRefusal (a .0 .now)) _ Drawn.refused refl p h .1) h;
-  fw-imbalance = λ κs a x e p h. amount-is (sectionIn (a .0 .now)) (a .1 .0) _ (amount-of (a .0 .now) _ p h) h;
-  fw-moment = λ κs a x e p h. amount-is (sectionIn (a .0 .now)) (a .1 .0) _ (amount-of (a .0 .now) _ p h) h;
+  fw-draw = λ κs a x e p h. point-is (sectionIn (a .0 .now)) (a .1 .0) (grants points (recordRefusal (a .0 .now)) _ p h .1) h;
+  fw-imbalance = λ κs a x e p h. amount-is (sectionIn (a .0 .now)) (a .1 .0) _ (grants amounts (recordRefusal (a .0 .now)) _ p h .1) h;
+  fw-moment = λ κs a x e p h. amount-is (sectionIn (a .0 .now)) (a .1 .0) _ (grants amounts (recordRefusal (a .0 .now)) _ p h .1) h;
   fw-depths = λ κs a x e p. list-of (a .0 .now) (a .1 .0 .now) (p .0) (p .1);
-  fw-shear = λ κs a x e p h. shear-is (sectionIn (a .0 .now)) (amount-of (a .0 .now) _ p h) h;
+  fw-shear = λ κs a x e p h. shear-is (sectionIn (a .0 .now)) (grants amounts (recordRefusal (a .0 .now)) _ p h .1) h;
 }

@@ -16,12 +16,12 @@ use Rattle.balance.specs.Answers.{imbalanceAnswer, momentAnswer, listAnswer, ro
 use Rattle.balance.proofs.Theorems.{listed-exactly, imbalance-close, moment-close, common-positive, strip-exact, bar-exact, pair-listed, zero-listed, last-zero-listed}
 use Rattle.balance.proofs.Answers.{amount-is, on-grid}
 use Rattle.balance.proofs.Shown.{counted, fourteen, fifteen, words-stay, same-length, shown-exactly, shown-rising}
-use Rattle.book.specs.Record.{sectionIn}
+use Rattle.book.specs.Record.{recordRefusal, sectionIn}
 use Rattle.book.specs.Good.{StandsAlone}
 use Rattle.book.proofs.Good.{record-stands}
 use Rattle.panel.specs.Face.{imbalanceOf, momentOf, listOf, rowOf}
 use Rattle.demands.specs.Demand3.{RowShows, Lists, ImbalanceNear, MomentNear, Demand3}
-use Rattle.demands.proofs.Demand2.{amount-of}
+use Rattle.demands.proofs.Shapes.{amounts, grants}
 
 module _ (s : Section) (before : List ℤ) {x : Listing} {after : List ℤ} (is : x ≡ listAnswer s (length before)) (left : after ≡ rowAfter s before) (ok : sectionRefusal s ≡ 0) where
   shows : 3 * x .count ≤ length before → RowShows s (x .count) after
@@ -70,8 +70,8 @@ demand3 = record {
   depths = λ κs a x e p ok. lists (a .0) (a .1 .0 .now) (p .0) (p .1) (accepts (a .0) ok);
   fw-depths = λ κs a x e p. list-of (a .0 .now) (a .1 .0 .now) (p .0) (p .1);
   imbalance-near = λ κs a x e p. imbalance-near (a .0) (a .1 .0) p;
-  fw-imbalance-near = λ κs a x e p h. imbalance-near (sectionIn (a .0 .now)) (a .1 .0) (amount-of (a .0 .now) _ p h) h;
+  fw-imbalance-near = λ κs a x e p h. imbalance-near (sectionIn (a .0 .now)) (a .1 .0) (grants amounts (recordRefusal (a .0 .now)) _ p h .1) h;
   moment-near = λ κs a x e p. moment-near (a .0) (a .1 .0) p;
-  fw-moment-near = λ κs a x e p h. moment-near (sectionIn (a .0 .now)) (a .1 .0) (amount-of (a .0 .now) _ p h) h;
+  fw-moment-near = λ κs a x e p h. moment-near (sectionIn (a .0 .now)) (a .1 .0) (grants amounts (recordRefusal (a .0 .now)) _ p h .1) h;
   exact = λ s a. record { denominator = λ x. common-positive s x (accepts s a); strips = strip-exact s; bars = bar-exact s };
 }

@@ -1,4 +1,5 @@
 pub mod Table
+pub mod Shapes
 pub mod Demand1
 pub mod Demand2
 pub mod Demand3
