@@ -7,15 +7,15 @@ use Rattle.section.specs.Accepted.{Between}
 use Rattle.book.specs.Record.{le16At, layersAt, sizeAt}
 use Rattle.book.specs.Book.{indexOf, countOf, statedLength, letterOf, startOf, endOf}
 
--- 1
+-- 1: of 16 to 65,536 bytes, and of its stated length
 abbrev pub LengthStands : List ℕ → Type 0
 LengthStands s = Between 16 65536 (length s) × (statedLength s ≡ length s)
 
--- 2
+-- 2: the last four bytes are BOOK
 abbrev pub LettersStand : List ℕ → Type 0
 LettersStand s = (letterOf s 4 ≡ 66) × (letterOf s 3 ≡ 79) × (letterOf s 2 ≡ 79) × (letterOf s 1 ≡ 75)
 
--- 3
+-- 3: index place + 4n + 16 is the length
 abbrev pub IndexStands : List ℕ → Type 0
 IndexStands s = indexOf s + 4 * countOf s + 16 ≡ length s
 
@@ -35,7 +35,7 @@ pub record GoodBook (s : List ℕ) : Type 0 where
   pub index : IndexStands s
   pub records : RecordsStand s
 
--- 6: a lone record
+-- 6: a lone record has 24 + 4m bytes, m at most 8, and its zero is zero
 abbrev pub StandsAlone : List ℕ → Type 0
 StandsAlone r = (length r ≡ sizeAt r 0) × (layersAt r 0 ≤ 8) × (le16At r 22 ≡ 0)
 

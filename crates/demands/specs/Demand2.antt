@@ -64,7 +64,7 @@ pub record Demand2 : Type 0 where
   -- a section
   pub section-refusal : Every.section-refusal (λ s x. (x ≡ 0) ↔ Accepted s)
   pub with-layer : Every.with-layer (λ s depth area x. x .refusal ≡ 0 → LayerAdded s (record { depth = depth; area = area }) x)
-  -- its law, and the stress of concrete and bars at the strain 500 t / q; 0 is answered only of a law that no accepted section has
+  -- its law, and the stress of concrete and bars at the strain 500 t / q; the 0 of `sizeIn` is only of a law that no section has
   pub limit-depth : Every.limit-depth (λ s x. x ≡ limitDepth s)
   pub effective-depth : Every.effective-depth (λ s x. x ≡ effectiveDepth s)
   pub law-of : Every.law-of (λ s x. x .refusal ≡ 0 → x .law ≡ lawOf s)

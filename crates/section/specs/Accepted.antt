@@ -13,19 +13,19 @@ Between low high n = (low ≤ n) × (n ≤ high)
 abbrev pub ConcreteIn : Section → Type 0
 ConcreteIn s = Between 20 50 (s .fck) × (s .fck % 5 ≡ 0)
 
--- 8
+-- 8: b and h
 abbrev pub SizesIn : Section → Type 0
 SizesIn s = Between 50 2000 (s .b) × Between 50 1000 (s .h)
 
--- 9
+-- 9: fyk
 abbrev pub SteelIn : Section → Type 0
 SteelIn s = Between 400 600 (s .fyk)
 
--- 10
+-- 10: feq2 and feq3
 abbrev pub FibresIn : Section → Type 0
 FibresIn s = (s .feq2 ≤ 20000) × (s .feq3 ≤ 20000)
 
--- 11
+-- 11: the axial load
 abbrev pub LoadIn : Section → Type 0
 LoadIn s = natAbs (s .load) ≤ 10000000
 
@@ -50,7 +50,7 @@ pub record TakesLayer (s : Section) (l : Layer) : Type 0 where
   pub room : s .count < 8
   pub there : LayersIn s
 
--- 13
+-- 13: stirrups have a spacing
 abbrev pub StirrupsIn : Section → Type 0
 StirrupsIn s = 0 < s .asw → 0 < s .spacing
 
