@@ -13,6 +13,13 @@ pub of-answer :
 of-answer P zero answered refused a r = a refl
 of-answer P (suc n) answered refused a r = rw eqb·suc-zero (r (suc-ne-zero n))
 
+-- of two answers by one refusal
+pub of-answers :
+    {X Y : Type 0} (P : X → Y → Type 0) (n : ℕ) (x : X) (y : Y) (f : ℕ → X) (g : ℕ → Y)
+    → (n ≡ 0 → P x y) → ((n ≡ 0 → ⊥) → P (f n) (g n)) → P (unlessRefused n x f) (unlessRefused n y g)
+of-answers P zero x y f g a r = a refl
+of-answers P (suc n) x y f g a r = rw eqb·suc-zero (r (suc-ne-zero n))
+
 -- it bears the number that it is refused by
 pub bears : {X : Type 0} (f : X → ℕ) (n : ℕ) (answered : X) (refused : ℕ → X) → f answered ≡ 0 → f (refused n) ≡ n → f (unlessRefused n answered refused) ≡ n
 bears f n answered refused a r = of-answer (λ x. f x ≡ n) n answered refused (λ e. a ∙ sym e) (λ h. r)

@@ -1,13 +1,12 @@
 -- Demand 1, by what each contract tells and the table. Assumes nothing.
-use Prim.Native.Nat.{ℕ, zero, suc}
+use Prim.Native.Nat.{ℕ}
 use mathlib.Core.Path.{_≡_, refl}
 use mathlib.Core.Logic.{_↔_, Iff·trans}
 use mathlib.Core.List.{List, [], _++_}
 use native.Mathlib.Omega.{arith}
-use lib.Dec.{eqb·suc-zero}
 use lib.IntN.{ℤ, pos}
 use lib.ListN.{length}
-use Rattle.arith.specs.Answers.{unlessRefused}
+use Rattle.arith.proofs.Answers.{of-answers}
 use Rattle.section.specs.declared.Layer.{Layer}
 use Rattle.section.specs.declared.Section.{Section}
 use Rattle.section.specs.declared.Added.{Added}
@@ -21,6 +20,7 @@ use Rattle.drawn.specs.Drawn.{noPoint, drawnRefusal, drawnAnswer}
 use Rattle.drawn.specs.Drawn as Drawn
 use Rattle.balance.specs.declared.Amount.{Amount}
 use Rattle.balance.specs.declared.Listing.{Listing}
+use Rattle.balance.specs.Depths.{listed}
 use Rattle.balance.specs.Answers.{gridRefusal, amountAnswer, unlisted, listAnswer, rowAfter}
 use Rattle.balance.proofs.Answers.{list-number, list-needed, list-none}
 use Rattle.balance.proofs.Shown.{row-kept}
@@ -38,8 +38,8 @@ use Rattle.class.specs.Class as Class
 use Rattle.panel.specs.Face.{drawnOf, imbalanceOf, momentOf, listOf, rowOf, shearOf}
 use Rattle.demands.specs.Table.{Line, First, bookLines, askedLines, loneLines, sectionLines, layerLines, depthsLines, shearLines, classLines, strainLines, gridLines}
 use Rattle.demands.specs.Demand1.{Refuses, RefusesList, Demand1}
-use Rattle.demands.proofs.Shapes.{sections, laws, points, amounts, books, places, records, classes, alone, of-record}
-use Rattle.demands.proofs.Table.{exactly, first-most, then-first, book-first, asked-first, lone-first, section-first, layer-first, list-first}
+use Rattle.demands.proofs.Shapes.{sections, laws, points, amounts, listings, books, places, records, classes, alone, of-record}
+use Rattle.demands.proofs.Table.{exactly, first-most, book-first, asked-first, lone-first, section-first, layer-first, list-first}
 use Rattle.demands.proofs.Table.{shear-first, class-first, strain-first, grid-first, not-fifteen}
 
 -- ---- each answer
@@ -88,37 +88,29 @@ part-refused s i =
     Iff·trans (empty-exactly s i) (λ h f. h (t .1 f), λ h e. h (t .0 e))
 
 -- ---- the list
-module _ (s : Section) (before : List ℤ) where
-  list-refuses : {x : Listing} {after : List ℤ} → x ≡ listAnswer s (length before) → after ≡ rowAfter s before → RefusesList (depthsLines s (length before)) s before x after
-  list-refuses is left = record {
-    number = rw (list-number s (length before) is) (exactly _ _ (list-first s (length before)));
-    zero = list-none s (length before) is;
-    needed = list-needed s (length before) is (not-fifteen s);
-    row = row-kept s before is left;
-  }
+list-refuses :
+    (s : Section) (before : List ℤ) {x : Listing} {after : List ℤ} → x ≡ listAnswer s (length before) → after ≡ rowAfter s before
+    → RefusesList (depthsLines s (length before)) s before x after
+list-refuses s before is left = record {
+  refuses = record { number = rw (list-number s (length before) is) (exactly _ _ (list-first s (length before))); beside = list-none s (length before) is };
+  needed = list-needed s (length before) is (not-fifteen s);
+  row = row-kept s before is left;
+}
 
-list-of :
-    (r : List ℕ) (before : List ℤ) {x : Listing} {after : List ℤ} → x ≡ listOf r (length before) → after ≡ rowOf r before
-    → RefusesList (loneLines r ++ depthsLines (sectionIn r) (length before)) (sectionIn r) before x after
-unfolding listOf rowOf
-list-of r before is left = rw (is, left) (pick (recordRefusal r) (lone-first r))
-  where
-    s : Section
-    s = sectionIn r
+module _ (r : List ℕ) (before : List ℤ) where
+  abbrev inner : RefusesList (depthsLines (sectionIn r) (length before)) (sectionIn r) before (listAnswer (sectionIn r) (length before)) (rowAfter (sectionIn r) before)
+  inner = list-refuses (sectionIn r) before refl refl
 
-    pick : (n : ℕ) → First (loneLines r) n
-        → RefusesList (loneLines r ++ depthsLines s (length before)) s before (unlessRefused n (listAnswer s (length before)) unlisted) (unlessRefused n (rowAfter s before) (λ number. before))
-    pick zero f =
-        let d = list-refuses s before refl refl in
-        record { number = exactly _ _ (then-first 6 (loneLines r) _ 0 _ refl f (d .number _ .0 refl)); zero = d .zero; needed = d .needed; row = d .row }
-    pick (suc n) f =
-        rw eqb·suc-zero
-        (record {
-          number = exactly _ _ (rw eqb·suc-zero at (then-first 6 (loneLines r) _ (suc n) _ refl f (list-first s (length before))));
-          zero = λ h k. refl;
-          needed = λ e. absurd (omega (arith, e, first-most 6 (loneLines r) (suc n) refl f));
-          row = λ h. refl;
-        })
+  -- no record is refused by 15
+  list-of :
+      {x : Listing} {after : List ℤ} → x ≡ listOf r (length before) → after ≡ rowOf r before
+      → RefusesList (loneLines r ++ depthsLines (sectionIn r) (length before)) (sectionIn r) before x after
+  unfolding listOf rowOf
+  list-of is left =
+      let rest = of-answers (λ (v : Listing) w. (v .refusal ≡ 15 → v .count ≡ length (listed (sectionIn r))) × ((v .refusal ≡ 0 → ⊥) → w ≡ before))
+      (recordRefusal r) _ _ unlisted (λ k. before) (λ e. (inner .needed, inner .row))
+      (λ h. (λ e. absurd (omega (arith, e, first-most 6 (loneLines r) (recordRefusal r) refl (lone-first r))), λ k. refl)) in
+      rw left (record { refuses = of-record listings r _ _ (inner .refuses) is; needed = rw (← is) at (rest .0); row = rw (← is) at (rest .1) })
 
 pub demand1 : Demand1
 unfolding drawnOf imbalanceOf momentOf shearOf

@@ -5,7 +5,6 @@ use mathlib.Core.List.{List}
 use native.Mathlib.Nat.{add-sub-cancel-left}
 use lib.IntN.{ℤ, pos}
 use lib.ListN.{length}
-use Rattle.arith.proofs.Answers.{granted}
 use Rattle.section.specs.declared.Layer.{Layer}
 use Rattle.section.specs.declared.Section.{Section}
 use Rattle.section.specs.declared.Added.{Added}
@@ -27,7 +26,7 @@ use Rattle.drawn.specs.Drawn as Drawn
 use Rattle.drawn.proofs.Within.{point-near}
 use Rattle.balance.specs.declared.Amount.{Amount}
 use Rattle.balance.specs.declared.Listing.{Listing}
-use Rattle.balance.specs.Answers.{answered, unlisted, listAnswer, rowAfter}
+use Rattle.balance.specs.Answers.{answered, listAnswer, rowAfter}
 use Rattle.balance.proofs.Answers.{amount-is, list-number, list-count, row-written}
 use Rattle.shear.specs.Shear.{resistance, shearRefusal, shearAnswer}
 use Rattle.shear.proofs.Theorems.{square-root, cube-root, axial-floor}
@@ -46,7 +45,7 @@ use Rattle.class.specs.Class as Class
 use Rattle.panel.specs.Face.{drawnOf, imbalanceOf, momentOf, listOf, rowOf, shearOf}
 use Rattle.demands.specs.Table.{First, askedLines}
 use Rattle.demands.specs.Demand2.{LayerAdded, ZeroPast, ClassIs, PointIs, ListIs, PlaceIs, Demand2}
-use Rattle.demands.proofs.Shapes.{sections, points, amounts, books, places, records, classes, grants}
+use Rattle.demands.proofs.Shapes.{sections, points, amounts, listings, books, places, records, classes, grants}
 use Rattle.demands.proofs.Table.{exactly, asked-first}
 
 -- ---- each answer where it is not refused
@@ -78,7 +77,7 @@ module _ (s : Section) where
   unfolding listAnswer
   list-is before is left h =
       let none = sym (list-number s (length before) is) ∙ h in
-      let ok = granted (λ (x : Listing). x .refusal) (sectionRefusal s) _ unlisted refl is h .0 in
+      let ok = grants listings (sectionRefusal s) _ is h .0 in
       (list-count s (length before) is ok, left ∙ row-written s before none)
 
 module _ (s : List ℕ) where
@@ -113,7 +112,7 @@ module _ (r : List ℕ) where
       → x .refusal ≡ 0 → ListIs (sectionIn r) before x after
   unfolding listOf rowOf
   list-of before is left h =
-      let g = granted (λ (x : Listing). x .refusal) (recordRefusal r) _ unlisted refl is h in
+      let g = grants listings (recordRefusal r) _ is h in
       list-is (sectionIn r) before (g .1) (rw (g .0) at left) h
 
 pub demand2 : Demand2

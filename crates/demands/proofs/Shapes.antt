@@ -17,7 +17,8 @@ use Rattle.drawn.specs.declared.Drawn.{Drawn}
 use Rattle.drawn.specs.Drawn.{noPoint}
 use Rattle.drawn.specs.Drawn as Drawn
 use Rattle.balance.specs.declared.Amount.{Amount}
-use Rattle.balance.specs.Answers.{noAmount}
+use Rattle.balance.specs.declared.Listing.{Listing}
+use Rattle.balance.specs.Answers.{noAmount, unlisted}
 use Rattle.book.specs.declared.BookAnswer.{BookAnswer}
 use Rattle.book.specs.declared.RecordAnswer.{RecordAnswer}
 use Rattle.book.specs.declared.SectionAnswer.{SectionAnswer}
@@ -55,6 +56,15 @@ points = record { number = λ x. x .refusal; zeros = λ x. x .point ≡ noPoint;
 
 abbrev pub amounts : Shape Amount
 amounts = record { number = λ x. x .refusal; zeros = λ x. x .amount ≡ pos 0; refused = noAmount; bears = λ k. refl; none = λ k. refl }
+
+abbrev pub listings : Shape Listing
+listings = record {
+  number = λ x. x .refusal;
+  zeros = λ x. (x .refusal ≡ 15 → ⊥) → x .count ≡ 0;
+  refused = unlisted;
+  bears = λ k. refl;
+  none = λ k h. refl;
+}
 
 abbrev pub books : Shape BookAnswer
 books = record { number = λ x. x .refusal; zeros = λ x. x .count ≡ 0; refused = noBook; bears = λ k. refl; none = λ k. refl }

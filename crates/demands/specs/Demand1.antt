@@ -32,8 +32,7 @@ pub record Refuses (lines : List Line) (refusal : ℕ) (zeros : Type 0) : Type 0
 
 -- beside that of a list no count, but under 15 the number of listed depths; and the row is as it was
 pub record RefusesList (lines : List Line) (s : Section) (before : List ℤ) (x : Listing) (after : List ℤ) : Type 0 where
-  pub number : ByTable lines (x .refusal)
-  pub zero : (x .refusal ≡ 0 → ⊥) → (x .refusal ≡ 15 → ⊥) → x .count ≡ 0
+  pub refuses : Refuses lines (x .refusal) ((x .refusal ≡ 15 → ⊥) → x .count ≡ 0)
   pub needed : x .refusal ≡ 15 → x .count ≡ length (listed s)
   pub row : (x .refusal ≡ 0 → ⊥) → after ≡ before
 
