@@ -1,16 +1,15 @@
 -- Division that rounds down: between what it lies, and how the machine's division, which rounds towards zero, gives it. Assumes nothing.
-use Prim.Native.Nat.{ℕ, suc, _+_, _*_, _/_, _≤_, _<_}
+use Prim.Native.Nat.{ℕ, suc, _*_, _/_, _≤_, _<_}
 use mathlib.Core.Path.{_≡_, refl}
 use native.Mathlib.Nat as NatL
 use native.Mathlib.Omega.{arith}
 use lib.Dec.{ltb→lt}
-use lib.IntN.{ℤ, pos, negsuc, _+ℤ_, _-ℤ_, _*ℤ_, natAbs}
+use lib.IntN.{ℤ, pos, negsuc, _-ℤ_, _*ℤ_, natAbs}
 use lib.Signed.{quotZ, _≤ℤ_, _<ℤ_}
-use Rattle.arith.specs.Floor.{floorDiv}
+use Rattle.arith.specs.Floor.{floorDiv, RoundsDown}
 use Rattle.arith.proofs.Signed.{up, dn, same, parts-add, parts-minus, up-scale, dn-scale, parts-lt, parts-le}
 
--- d q ≤ z < d q + d
-pub floor-is : (z : ℤ) (d : ℕ) → 0 < d → ((pos d *ℤ floorDiv z d) ≤ℤ z) × (z <ℤ ((pos d *ℤ floorDiv z d) +ℤ pos d))
+pub floor-is : (z : ℤ) (d : ℕ) → 0 < d → RoundsDown z d (floorDiv z d)
 unfolding floorDiv
 floor-is (pos a) d h =
     let q = pos (a / d) in

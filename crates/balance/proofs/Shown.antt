@@ -17,7 +17,7 @@ use Rattle.section.specs.declared.Section.{Section}
 use Rattle.section.specs.Refusal.{line, firstOf, sectionRefusal}
 use Rattle.balance.specs.declared.Listing.{Listing}
 use Rattle.balance.specs.Forces.{moment}
-use Rattle.balance.specs.Depths.{Entry, entryOf, lastDepth, kindAt, listed, words, written, Balances, Rising}
+use Rattle.balance.specs.Depths.{Entry, entryOf, lastDepth, kindAt, listed, words, written, Balances, NoDepth, Rising}
 use Rattle.balance.specs.Row.{wordAt, ReadAt, Shown, howMany}
 use Rattle.balance.specs.Answers.{depthsRefusal, listRefusal, listAnswer, rowAfter}
 use Rattle.balance.proofs.Listed.{count-kinds, words-length, word-of}
@@ -103,7 +103,7 @@ module _ (s : Section) (row : List ℤ) {a : Listing} {after : List ℤ} (is : a
     counted = count ∙ count-kinds (kindAt s) (moment s) (lastDepth s)
 
     -- 14 exactly where there is none
-    pub fourteen : (a .refusal ≡ 14) ↔ ((x : ℕ) → 1 ≤ x → x ≤ lastDepth s → kindAt s x ≡ 0)
+    pub fourteen : (a .refusal ≡ 14) ↔ NoDepth s
     fourteen = rw (list-number s (length row) is) (fourteen-exactly s (length row) ok)
 
     -- 15 exactly where the row is too short

@@ -7,7 +7,7 @@ use mathlib.Core.List.{List, [], _∷_, List·Memᴰ, List·Memᴰ·head, List·
 use native.Mathlib.Nat as NatL
 use native.Mathlib.Omega.{arith}
 use lib.Dec.{ltb, leb}
-use lib.IntN.{ℤ, pos, natAbs, _-ℤ_, _*ℤ_}
+use lib.IntN.{pos}
 use lib.ListN.{length}
 use borrow.Author.Tests.{lt-ltb}
 use Rattle.arith.proofs.Tests.{Decides}
@@ -18,8 +18,8 @@ use Rattle.law.specs.Law.{lawOf}
 use Rattle.law.specs.Stress.{Stress, signed}
 use Rattle.law.proofs.Sides.{signed-scale}
 use Rattle.balance.specs.Forces.{area, stripStress, barStress, imbalance, moment}
-use Rattle.balance.specs.Depths.{Entry, kindAt, lastDepth, listed, Balances, SomeDepth, Rising}
-use Rattle.balance.specs.Exact.{exactOver, SameOver, common, exactImbalance, exactMoment, ClearlyAbove, ClearlyBelow}
+use Rattle.balance.specs.Depths.{Entry, kindAt, lastDepth, listed, Balances, SomeDepth, NoDepth, Rising}
+use Rattle.balance.specs.Exact.{exactOver, SameOver, common, ClearlyChanges, ImbalanceNear, MomentNear}
 use Rattle.balance.specs.Answers.{depthsRefusal, listRefusal}
 use Rattle.balance.proofs.Listed.{list-only, list-all, list-rising, list-empty, empty-list}
 use Rattle.balance.proofs.Signs.{falls, rises, kind-one, kind-two}
@@ -44,7 +44,7 @@ listed-exactly s e = (only, all)
 pub listed-rising : (s : Section) → Rising 0 (listed s)
 listed-rising s = list-rising (kindAt s) (moment s) (lastDepth s)
 
-pub none-listed : (s : Section) → (listed s ≡ []) ↔ ((x : ℕ) → 1 ≤ x → x ≤ lastDepth s → kindAt s x ≡ 0)
+pub none-listed : (s : Section) → (listed s ≡ []) ↔ NoDepth s
 none-listed s = (list-empty (kindAt s) (moment s) (lastDepth s), empty-list (kindAt s) (moment s) (lastDepth s))
 
 in-first : (es : List Entry) → Decides (ltb 0 (length es)) ((e : Entry) × List·Memᴰ e es)
@@ -62,15 +62,15 @@ not-fourteen : (t : Bool) → line t 15 0 ≡ 14 → ⊥
 not-fourteen true e = omega arith
 not-fourteen false e = omega arith
 
-pub fourteen-exactly : (s : Section) (room : ℕ) → sectionRefusal s ≡ 0 → (listRefusal s room ≡ 14) ↔ ((x : ℕ) → 1 ≤ x → x ≤ lastDepth s → kindAt s x ≡ 0)
+pub fourteen-exactly : (s : Section) (room : ℕ) → sectionRefusal s ≡ 0 → (listRefusal s room ≡ 14) ↔ NoDepth s
 unfolding listRefusal depthsRefusal
 fourteen-exactly s room ok = rw ok (Iff·trans (fourteen-where-empty (listed s) _ (not-fourteen (leb (3 * length (listed s)) room))) (none-listed s))
 
 -- ---- 2. the rounded sums lie within one kPa times the area of the exact ones, the moments within that times h
-pub imbalance-close : (s : Section) (x : ℕ) → sectionRefusal s ≡ 0 → 1 ≤ x → natAbs (exactImbalance s x -ℤ (pos (common s x) *ℤ imbalance s x)) < common s x * area s
+pub imbalance-close : (s : Section) (x : ℕ) → sectionRefusal s ≡ 0 → 1 ≤ x → ImbalanceNear s x (imbalance s x)
 imbalance-close s x ok from = let a = accepted s ok in omega (arith, imbalance-within a from .within, area-positive a)
 
-pub moment-close : (s : Section) (x : ℕ) → sectionRefusal s ≡ 0 → 1 ≤ x → natAbs (exactMoment s x -ℤ (pos (common s x) *ℤ moment s x)) ≤ common s x * (area s * s .h)
+pub moment-close : (s : Section) (x : ℕ) → sectionRefusal s ≡ 0 → 1 ≤ x → MomentNear s x (moment s x)
 moment-close s x ok from = omega (arith, moment-within (accepted s ok) from .within)
 
 -- they have a denominator, and over it each stress is the fraction that it is
@@ -94,8 +94,7 @@ listed-as : (s : Section) (x kind : ℕ) → 1 ≤ x → x ≤ lastDepth s → k
 listed-as s x kind from to e = rw e at (list-all (kindAt s) (moment s) (lastDepth s) x from to (omega arith))
 
 pub pair-listed :
-    (s : Section) (x : ℕ) → sectionRefusal s ≡ 0 → 1 ≤ x → x < lastDepth s
-    → (ClearlyAbove s x × ClearlyBelow s (x + 1)) ⊎ (ClearlyBelow s x × ClearlyAbove s (x + 1))
+    (s : Section) (x : ℕ) → sectionRefusal s ≡ 0 → 1 ≤ x → x < lastDepth s → ClearlyChanges s x
     → List·Memᴰ (record { depth = x; kind = 2; moment = moment s x }) (listed s)
 pair-listed s x ok from to k =
     let a = accepted s ok in

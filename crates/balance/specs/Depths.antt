@@ -63,9 +63,12 @@ pub record Balances (s : Section) (e : Entry) : Type 0 where
   pub some : 0 < e .kind
   pub moment : e .moment ≡ moment s (e .depth)
 
--- some depth balances
+-- some depth balances, or none
 abbrev pub SomeDepth : Section → Type 0
 SomeDepth s = (e : Entry) × Balances s e
+
+abbrev pub NoDepth : Section → Type 0
+NoDepth s = (x : ℕ) → 1 ≤ x → x ≤ lastDepth s → kindAt s x ≡ 0
 
 -- strictly ascending from above `low` on, so each once
 abbrev pub Rising : ℕ → List Entry → Type 0

@@ -1,7 +1,8 @@
 -- Demand 3: the exact sums, with the same whole numbers of the law but unrounded stresses, all strips and bars of one depth over a common denominator.
-use Prim.Native.Nat.{ℕ, _*_, _/_}
+use Prim.Native.Nat.{ℕ, _+_, _*_, _/_, _≤_, _<_}
 use mathlib.Core.Path.{_≡_}
-use lib.IntN.{ℤ, pos, negℤ, _-ℤ_, _*ℤ_}
+use mathlib.Core.Logic.{_⊎_}
+use lib.IntN.{ℤ, pos, negℤ, natAbs, _-ℤ_, _*ℤ_}
 use lib.Signed.{_≤ℤ_}
 use Rattle.arith.specs.Sums.{prodN}
 use Rattle.section.specs.declared.Section.{Section}
@@ -45,3 +46,14 @@ ClearlyAbove s x = pos (common s x * area s) ≤ℤ exactImbalance s x
 
 abbrev pub ClearlyBelow : Section → ℕ → Type 0
 ClearlyBelow s x = exactImbalance s x ≤ℤ negℤ (pos (common s x * area s))
+
+-- on one side at a depth, on the other at the next
+abbrev pub ClearlyChanges : Section → ℕ → Type 0
+ClearlyChanges s x = (ClearlyAbove s x × ClearlyBelow s (x + 1)) ⊎ (ClearlyBelow s x × ClearlyAbove s (x + 1))
+
+-- an imbalance within one kPa times the area of the exact one, a moment within that times h
+abbrev pub ImbalanceNear : Section → ℕ → ℤ → Type 0
+ImbalanceNear s x amount = natAbs (exactImbalance s x -ℤ (pos (common s x) *ℤ amount)) < common s x * area s
+
+abbrev pub MomentNear : Section → ℕ → ℤ → Type 0
+MomentNear s x amount = natAbs (exactMoment s x -ℤ (pos (common s x) *ℤ amount)) ≤ common s x * (area s * s .h)

@@ -11,6 +11,7 @@ use Rattle.section.proofs.Accepted.{accepts}
 use Rattle.balance.specs.declared.Amount.{Amount}
 use Rattle.balance.specs.declared.Listing.{Listing}
 use Rattle.balance.specs.Depths.{Entry, listed}
+use Rattle.balance.specs.Exact.{ImbalanceNear, MomentNear}
 use Rattle.balance.specs.Row.{Shown}
 use Rattle.balance.specs.Answers.{imbalanceAnswer, momentAnswer, listAnswer, rowAfter}
 use Rattle.balance.proofs.Theorems.{listed-exactly, imbalance-close, moment-close, common-positive, strip-exact, bar-exact, pair-listed, zero-listed, last-zero-listed}
@@ -20,7 +21,7 @@ use Rattle.book.specs.Record.{recordRefusal, sectionIn}
 use Rattle.book.specs.Good.{StandsAlone}
 use Rattle.book.proofs.Good.{record-stands}
 use Rattle.panel.specs.Face.{imbalanceOf, momentOf, listOf, rowOf}
-use Rattle.demands.specs.Demand3.{RowShows, Lists, ImbalanceNear, MomentNear, Demand3}
+use Rattle.demands.specs.Demand3.{RowShows, Lists, Demand3}
 use Rattle.demands.proofs.Shapes.{amounts, grants}
 
 module _ (s : Section) (before : List ℤ) {x : Listing} {after : List ℤ} (is : x ≡ listAnswer s (length before)) (left : after ≡ rowAfter s before) (ok : sectionRefusal s ≡ 0) where

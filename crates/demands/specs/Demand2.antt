@@ -6,9 +6,9 @@ use mathlib.Core.Bool.{true, false}
 use mathlib.Core.Logic.{_↔_}
 use mathlib.Core.List.{List}
 use lib.Dec.{leb}
-use lib.IntN.{ℤ, pos, _+ℤ_, _*ℤ_}
+use lib.IntN.{ℤ, pos, _*ℤ_}
 use lib.ListN.{length}
-use lib.Signed.{_≤ℤ_, _<ℤ_}
+use Rattle.arith.specs.Floor.{RoundsDown}
 use Rattle.arith.specs.Largest.{Largest, largest}
 use Rattle.section.specs.declared.Layer.{Layer}
 use Rattle.section.specs.declared.Section.{Section}
@@ -84,8 +84,7 @@ pub record Demand2 : Type 0 where
   pub shear : Every.shear (λ s x. x .refusal ≡ 0 → x .amount ≡ pos (resistance s))
   pub square-root : (d bound : ℕ) → 0 < d → Largest (squared d) bound (largest (squared d) bound)
   pub cube-root : (bd bound : ℕ) → 0 < bd → Largest (cubed bd) bound (largest (cubed bd) bound)
-  pub axial-share : (s : Section) → Accepted s
-      → let D = pos (100 * concreteArea s) in ((D *ℤ axialShare s) ≤ℤ (pos 15 *ℤ loadOf s)) × ((pos 15 *ℤ loadOf s) <ℤ ((D *ℤ axialShare s) +ℤ D))
+  pub axial-share : (s : Section) → Accepted s → RoundsDown (pos 15 *ℤ loadOf s) (100 * concreteArea s) (axialShare s)
   -- a book, the part of a record, and its section, in which places past the layer count are zero
   pub book : Every.book (λ bytes x. x .refusal ≡ 0 → x .count ≡ countOf bytes)
   pub record-place : Every.record-place (λ bytes i x. x .refusal ≡ 0 → PlaceIs bytes i x)

@@ -2,29 +2,22 @@
 -- sign the pair is listed. Of what a caller gets: the row, the count, and the amounts that are answered.
 use Prim.Native.Nat.{ℕ, _+_, _*_, _≤_, _<_}
 use mathlib.Core.Path.{_≡_}
-use mathlib.Core.Logic.{_⊎_, _↔_}
+use mathlib.Core.Logic.{_↔_}
 use mathlib.Core.List.{List}
-use lib.IntN.{ℤ, pos, natAbs, _-ℤ_, _*ℤ_}
+use lib.IntN.{ℤ, pos}
 use lib.ListN.{length}
 use lib.Signed.{_<ℤ_}
 use Rattle.section.specs.declared.Section.{Section}
 use Rattle.section.specs.Accepted.{Accepted}
 use Rattle.law.specs.Law.{lawOf}
 use Rattle.balance.specs.declared.Listing.{Listing}
-use Rattle.balance.specs.Forces.{area, stripStress, barStress, imbalance, moment}
-use Rattle.balance.specs.Depths.{Entry, lastDepth, kindAt, Balances}
+use Rattle.balance.specs.Forces.{stripStress, barStress, imbalance, moment}
+use Rattle.balance.specs.Depths.{Entry, lastDepth, Balances, NoDepth}
 use Rattle.balance.specs.Row.{wordAt, Shown, howMany}
-use Rattle.balance.specs.Exact.{SameOver, common, exactImbalance, exactMoment, ClearlyAbove, ClearlyBelow}
+use Rattle.balance.specs.Exact.{SameOver, common, ClearlyChanges, ImbalanceNear, MomentNear}
 use Rattle.book.specs.Record.{sectionIn}
 use Rattle.book.specs.Good.{StandsAlone}
 use Rattle.demands.specs.Every as Every
-
--- an imbalance within one kPa times the area of the exact one, a moment within that times h
-abbrev pub ImbalanceNear : Section → ℕ → ℤ → Type 0
-ImbalanceNear s x amount = natAbs (exactImbalance s x -ℤ (pos (common s x) *ℤ amount)) < common s x * area s
-
-abbrev pub MomentNear : Section → ℕ → ℤ → Type 0
-MomentNear s x amount = natAbs (exactMoment s x -ℤ (pos (common s x) *ℤ amount)) ≤ common s x * (area s * s .h)
 
 -- what a caller reads in the row, where it has room for three words a listed depth
 pub record RowShows (s : Section) (count : ℕ) (row : List ℤ) : Type 0 where
@@ -35,9 +28,7 @@ pub record RowShows (s : Section) (count : ℕ) (row : List ℤ) : Type 0 where
   pub own : (e : Entry) → Shown row count e → e .moment ≡ moment s (e .depth)
   pub near : (e : Entry) → Shown row count e → MomentNear s (e .depth) (e .moment)
   -- 3. where the exact imbalances at neighbours are clearly on two sides of zero, the shallower is shown
-  pub pairs : (x : ℕ) → 1 ≤ x → x < lastDepth s
-      → (ClearlyAbove s x × ClearlyBelow s (x + 1)) ⊎ (ClearlyBelow s x × ClearlyAbove s (x + 1))
-      → Shown row count (record { depth = x; kind = 2; moment = moment s x })
+  pub pairs : (x : ℕ) → 1 ≤ x → x < lastDepth s → ClearlyChanges s x → Shown row count (record { depth = x; kind = 2; moment = moment s x })
   -- 4. a zero is shown, at the last depth too, which has no next one
   pub zeros : (x : ℕ) → 1 ≤ x → x ≤ lastDepth s → imbalance s x ≡ pos 0 → Shown row count (record { depth = x; kind = 1; moment = moment s x })
   pub last : imbalance s (lastDepth s) ≡ pos 0 → Shown row count (record { depth = lastDepth s; kind = 1; moment = moment s (lastDepth s) })
@@ -46,7 +37,7 @@ pub record RowShows (s : Section) (count : ℕ) (row : List ℤ) : Type 0 where
 pub record Lists (s : Section) (before : List ℤ) (x : Listing) (after : List ℤ) : Type 0 where
   -- the count is the number of depths that have a kind, whatever room there is; 14 exactly where it is none, 15 exactly where there is no room for it
   pub count : x .count ≡ howMany s
-  pub none : (x .refusal ≡ 14) ↔ ((d : ℕ) → 1 ≤ d → d ≤ lastDepth s → kindAt s d ≡ 0)
+  pub none : (x .refusal ≡ 14) ↔ NoDepth s
   pub short : (x .refusal ≡ 15) ↔ (length before < 3 * x .count)
   pub row : 3 * x .count ≤ length before → RowShows s (x .count) after
   -- the words after the list stay

@@ -3,8 +3,8 @@
 use Prim.Native.Nat.{ℕ, _*_, _<_}
 use mathlib.Core.Bool.{true, false}
 use native.Mathlib.Omega.{arith}
-use lib.IntN.{ℤ, pos, _+ℤ_, _*ℤ_}
-use lib.Signed.{_≤ℤ_, _<ℤ_}
+use lib.IntN.{ℤ, pos, _*ℤ_}
+use Rattle.arith.specs.Floor.{RoundsDown}
 use Rattle.arith.specs.Largest.{Largest, largest}
 use Rattle.arith.proofs.Largest.{largest-is}
 use Rattle.arith.proofs.Floor.{floor-is}
@@ -22,8 +22,7 @@ square-root d bound h = largest-is (raised-climbs false d h) (omega arith)
 pub cube-root : (bd bound : ℕ) → 0 < bd → Largest (cubed bd) bound (largest (cubed bd) bound)
 cube-root bd bound h = largest-is (raised-climbs true bd h) (omega arith)
 
--- D q ≤ 15 N < D q + D, where q is the share and D is 100 b h
-pub axial-floor : {s : Section} → Accepted s
-    → let D = pos (100 * concreteArea s) in ((D *ℤ axialShare s) ≤ℤ (pos 15 *ℤ loadOf s)) × ((pos 15 *ℤ loadOf s) <ℤ ((D *ℤ axialShare s) +ℤ D))
+-- 15 N over 100 b h
+pub axial-floor : {s : Section} → Accepted s → RoundsDown (pos 15 *ℤ loadOf s) (100 * concreteArea s) (axialShare s)
 unfolding axialShare
 axial-floor {s} a = floor-is (pos 15 *ℤ loadOf s) (100 * concreteArea s) (omega (arith, concrete-area s, area-in a .area))
