@@ -5,8 +5,9 @@
  *   'c'  fw_class: fR1, fR3, 16 bits each; refusal, step, letter, 32 bits each
  *   'd'  fw_draw: len, 16 bits; a record of len bytes; strain, 32 bits signed; refusal, 32 bits; the bits of strain and stress, 64 each
  *   'i'  fw_imbalance: len and a record likewise; x, 32 bits; refusal, 32 bits; amount, 64 bits signed
- *   'm'  fw_moment: the same
- *   's'  fw_shear: the same without x
+ *   'e'  fw_imbalance at every depth from 1 to x: the same, with a refusal and an amount for each
+ *   'm'  fw_moment: as 'i'
+ *   's'  fw_shear: as 'i' without x
  *   'l'  fw_depths: len and a record likewise; words, 16 bits; the row before the call and the row after it, 64 bits a word; refusal and
  *        count, 32 bits each
  *   'b'  fw_book: len, 32 bits; a book of len bytes; refusal, count, 32 bits each
@@ -82,10 +83,11 @@ static const uint8_t *lend(lent *part, size_t len)
     return take(part);
 }
 
-/* Whether a difference gets a line. */
+/* Whether a difference gets a line, asked once of each: a case of many depths may have many. */
 static int told(void)
 {
-    return !broken && not_held < 10;
+    static int lines;
+    return !broken && lines++ < 10;
 }
 
 /* The next words. */
@@ -164,12 +166,17 @@ static int amount_held(fw_amount answer, const char *name, const uint8_t *record
     return 0;
 }
 
-static int amount_at_held(const char *name, fw_amount (*function)(const uint8_t *, size_t, uint32_t))
+/* At the depth that comes next, or at every one from 1 to it. */
+static int amount_at_held(const char *name, fw_amount (*function)(const uint8_t *, size_t, uint32_t), int every)
 {
     size_t len = (size_t)number(2);
     const uint8_t *record = lend(&record_lent, len);
-    uint32_t x = (uint32_t)number(4);
-    return amount_held(function(record, len, x), name, record, len, &x);
+    uint32_t last = (uint32_t)number(4), x = every ? 1 : last;
+    int all = 1;
+    do
+        all &= amount_held(function(record, len, x), name, record, len, &x);
+    while (x++ < last && !broken);
+    return all;
 }
 
 static int shear_held(void)
@@ -244,8 +251,9 @@ static int case_held(int function)
     switch (function) {
     case 'c': return class_held();
     case 'd': return draw_held();
-    case 'i': return amount_at_held("fw_imbalance", fw_imbalance);
-    case 'm': return amount_at_held("fw_moment", fw_moment);
+    case 'i': return amount_at_held("fw_imbalance", fw_imbalance, 0);
+    case 'e': return amount_at_held("fw_imbalance", fw_imbalance, 1);
+    case 'm': return amount_at_held("fw_moment", fw_moment, 0);
     case 's': return shear_held();
     case 'l': return depths_held();
     case 'b': return book_held();

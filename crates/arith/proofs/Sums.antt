@@ -29,13 +29,13 @@ runs-joined f from m zero = rw (NatL.add-zero m) (sym (NatL.add-zero (sumN m (af
 runs-joined f from m (suc n) = rw (NatL.add-suc m n, runs-joined f from m n, ← NatL.add-assoc from m n) (NatL.add-assoc (sumN m (after from f)) (sumN n (after (from + m) f)) (f (from + m + n)))
 
 -- a run, cut in two
-run-cut : (f : ℕ → ℕ) (from mid to : ℕ) → from ≤ mid → mid ≤ to → sumN (to - from) (after from f) ≡ sumN (mid - from) (after from f) + sumN (to - mid) (after mid f)
+pub run-cut : (f : ℕ → ℕ) (from mid to : ℕ) → from ≤ mid → mid ≤ to → sumN (to - from) (after from f) ≡ sumN (mid - from) (after from f) + sumN (to - mid) (after mid f)
 run-cut f from mid to h k =
     ap (λ n. sumN n (after from f)) (omega arith) ∙ runs-joined f from (mid - from) (to - mid)
     ∙ ap (λ n. sumN (mid - from) (after from f) + sumN (to - mid) (after n f)) (omega arith)
 
 -- a run of terms that are alike
-run-flat : (f : ℕ → ℕ) (c from n : ℕ) → ((i : ℕ) → from ≤ i → i < from + n → f i ≡ c) → sumN n (after from f) ≡ c * n
+pub run-flat : (f : ℕ → ℕ) (c from n : ℕ) → ((i : ℕ) → from ≤ i → i < from + n → f i ≡ c) → sumN n (after from f) ≡ c * n
 unfolding sumN
 run-flat f c from zero h = sym (NatL.mul-zero c)
 run-flat f c from (suc n) h = rw (run-flat f c from n (λ i p q. h i p (omega arith)), h (from + n) (omega arith) (omega arith)) (sym (NatL.mul-suc c n))
@@ -52,15 +52,18 @@ run-none f from = refl
 pub run-nil : (f : ℕ → ℕ) (from to : ℕ) → ((i : ℕ) → from ≤ i → i < to → f i ≡ 0) → 0 ≡ sumN (to - from) (after from f)
 run-nil f from to h = sym (run-flat f 0 from (to - from) (λ i p q. h i p (omega arith)) ∙ NatL.zero-mul (to - from))
 
--- a run whose first terms are alike and whose last are none
-pub run-middle :
-    (f : ℕ → ℕ) (c from start end to : ℕ) → from ≤ start → start ≤ end → end ≤ to
-    → ((i : ℕ) → from ≤ i → i < start → f i ≡ c) → ((i : ℕ) → end ≤ i → i < to → f i ≡ 0)
-    → c * (start - from) + sumN (end - start) (after start f) ≡ sumN (to - from) (after from f)
-run-middle f c from start end to h k j first last =
-    let alike = run-flat f c from (start - from) (λ i p q. first i p (omega arith)) in
-    let none = run-nil f end to last in
-    omega (arith, alike, none, run-cut f from start to h (omega arith), run-cut f start end to k j)
+-- a run whose first terms are alike
+pub run-level :
+    (f : ℕ → ℕ) (c from start to : ℕ) → from ≤ start → start ≤ to → ((i : ℕ) → from ≤ i → i < start → f i ≡ c)
+    → c * (start - from) + sumN (to - start) (after start f) ≡ sumN (to - from) (after from f)
+run-level f c from start to h k first =
+    omega (arith, run-cut f from start to h k, run-flat f c from (start - from) (λ i p q. first i p (omega arith)))
+
+-- a run whose last terms are none
+pub run-early :
+    (f : ℕ → ℕ) (from end to : ℕ) → from ≤ end → end ≤ to → ((i : ℕ) → end ≤ i → i < to → f i ≡ 0)
+    → sumN (end - from) (after from f) ≡ sumN (to - from) (after from f)
+run-early f from end to h k last = omega (arith, run-cut f from end to h k, run-nil f end to last)
 
 -- a run whose first terms are none
 pub run-late :
@@ -71,10 +74,48 @@ run-late f from start to h first =
     (λ z. omega (arith, run-cut f from start to h (omega arith), run-nil f from start first))
     (NatL.eq-zero-or-pos (to - start))
 
-pub sum-most : (n B : ℕ) (f : ℕ → ℕ) → ((i : ℕ) → f i ≤ B) → sumN n f ≤ B * n
+-- ---- two sums, term by term
+pub sum-same : (f g : ℕ → ℕ) (n : ℕ) → ((i : ℕ) → i < n → f i ≡ g i) → sumN n f ≡ sumN n g
 unfolding sumN
-sum-most zero B f h = omega arith
-sum-most (suc n) B f h = omega (arith, sum-most n B f h, h n, NatL.mul-suc B n)
+sum-same f g zero h = refl
+sum-same f g (suc n) h = rw (sum-same f g n (λ i k. h i (omega arith)), h n (omega arith))
+
+pub run-same : (f g : ℕ → ℕ) (from to : ℕ) → ((i : ℕ) → from ≤ i → i < to → f i ≡ g i) → sumN (to - from) (after from f) ≡ sumN (to - from) (after from g)
+run-same f g from to h = sum-same (after from f) (after from g) (to - from) (λ i k. h (from + i) (omega arith) (omega arith))
+
+-- each term of one by so much more than the other's
+pub sum-raised : (n c : ℕ) (f g : ℕ → ℕ) → ((i : ℕ) → i < n → f i ≡ c + g i) → c * n + sumN n g ≡ sumN n f
+unfolding sumN
+sum-raised zero c f g h = omega arith
+sum-raised (suc n) c f g h = omega (arith, sum-raised n c f g (λ i k. h i (omega arith)), h n (omega arith), NatL.mul-suc c n)
+
+-- terms that make so much together
+pub sum-pairs : (n c : ℕ) (f g : ℕ → ℕ) → ((i : ℕ) → i < n → f i + g i ≡ c) → sumN n f + sumN n g ≡ c * n
+unfolding sumN
+sum-pairs zero c f g h = omega arith
+sum-pairs (suc n) c f g h = omega (arith, sum-pairs n c f g (λ i k. h i (omega arith)), h n (omega arith), NatL.mul-suc c n)
+
+-- the same terms, from the last to the first
+sum-first : (n : ℕ) (f : ℕ → ℕ) → sumN (suc n) f ≡ f 0 + sumN n (λ i. f (suc i))
+unfolding sumN
+sum-first zero f = omega arith
+sum-first (suc n) f = omega (arith, sum-first n f)
+
+pub sum-back : (n : ℕ) (f g : ℕ → ℕ) → ((i : ℕ) → i < n → f (n - 1 - i) ≡ g i) → sumN n g ≡ sumN n f
+unfolding sumN
+sum-back zero f g h = refl
+sum-back (suc n) f g h =
+    let first : f n ≡ g 0 = ap f (omega arith) ∙ h 0 (omega arith) in
+    omega (arith, sum-first n g, sum-back n f (λ i. g (suc i)) (λ i k. ap f (omega arith) ∙ h (suc i) (omega arith)))
+
+-- ---- how large a sum gets
+pub sum-within : (n B : ℕ) (f : ℕ → ℕ) → ((i : ℕ) → i < n → f i ≤ B) → sumN n f ≤ B * n
+unfolding sumN
+sum-within zero B f h = omega arith
+sum-within (suc n) B f h = omega (arith, sum-within n B f (λ i k. h i (omega arith)), h n (omega arith), NatL.mul-suc B n)
+
+pub sum-most : (n B : ℕ) (f : ℕ → ℕ) → ((i : ℕ) → f i ≤ B) → sumN n f ≤ B * n
+sum-most n B f h = sum-within n B f (λ i k. h i)
 
 pub sum-none : (f : ℕ → ℤ) → sumZ 0 f ≡ pos 0
 unfolding sumZ

@@ -1,4 +1,5 @@
 pub mod Strains
+pub mod Steadiness
 pub mod Strips
 pub mod Load
 pub mod Kept

@@ -35,15 +35,23 @@ unfolding modulus allBelow
 modulus-in {s} a = row (29000 ∷ 30500 ∷ 32000 ∷ 33500 ∷ 35000 ∷ 36000 ∷ 37000 ∷ []) 29000 37000 (column (s .fck)) refl (column-in a)
 
 -- ---- depths
-pub limit-in : {s : Section} → Accepted s → (0 < limitDepth s) × (limitDepth s ≤ s .h)
+-- what holds of h, and of the deepest layer where there is one
+limit-by : (s : Section) (P : ℕ → Type 0) → P (s .h) → (0 < s .count → P (layerAt (s .layers) (s .count - 1) .depth)) → P (limitDepth s)
 unfolding limitDepth
-limit-in {s} a = pick (s .count) refl
+limit-by s P none = pick (s .count)
   where
-    pick : (m : ℕ) → m ≡ s .count → (0 < cond (eqb m 0) (s .h) (layerAt (s .layers) (m - 1) .depth)) × (cond (eqb m 0) (s .h) (layerAt (s .layers) (m - 1) .depth) ≤ s .h)
-    pick zero e = (omega (arith, a .sizes .1 .0), omega arith)
-    pick (suc m) e =
-        let l = a .bars .0 .each (suc m - 1) (omega arith) in
-        rw eqb·suc-zero (l .deep, omega (arith, l .inside))
+    pick : (m : ℕ) → (0 < m → P (layerAt (s .layers) (m - 1) .depth)) → P (cond (eqb m 0) (s .h) (layerAt (s .layers) (m - 1) .depth))
+    pick zero some = none
+    pick (suc m) some = rw eqb·suc-zero (some (omega arith))
+
+pub limit-in : {s : Section} → Accepted s → (0 < limitDepth s) × (limitDepth s ≤ s .h)
+limit-in {s} a =
+    limit-by s (λ d. (0 < d) × (d ≤ s .h)) (omega (arith, a .sizes .1 .0), omega arith)
+    (λ h. let l = a .bars .0 .each (s .count - 1) (omega arith) in (l .deep, omega (arith, l .inside)))
+
+-- below mid-height
+pub limit-deep : {s : Section} → Accepted s → s .h < 2 * limitDepth s
+limit-deep {s} a = limit-by s (λ d. s .h < 2 * d) (omega (arith, a .sizes .1 .0)) (a .bars .1)
 
 pub depth-in : {s : Section} → Accepted s → (0 < effectiveDepth s) × (effectiveDepth s ≤ 1000)
 unfolding effectiveDepth

@@ -35,6 +35,18 @@ smalls l e =
       e3 = ltb-true _ _ (p6 .1);
     }
 
+pub small-is : (l : Law) → Small l → small l ≡ true
+small-is l n =
+    rw (
+      lt-ltb (l .fcd) 65536 (n .fcd),
+      lt-ltb (l .s1) 65536 (n .s1),
+      lt-ltb (l .s2) 65536 (n .s2),
+      lt-ltb (l .s3) 65536 (n .s3),
+      lt-ltb (l .e1) 65536 (n .e1),
+      lt-ltb (l .e2) 65536 (n .e2),
+      lt-ltb (l .e3) 65536 (n .e3),
+    )
+
 -- the first test of a size passes over such a law, and over no strain
 pub idle : (l : Law) (t : Stress) (r : Bool) (p : ℕ) → r ≡ small l → not r || eqb p 0 ≡ true → (p ≡ 0 → size t ≡ 0) → 0 ≡ sizeIn l t
 unfolding sizeIn
@@ -144,14 +156,4 @@ law-small a =
     }
 
 pub small-law : {s : Section} → Accepted s → small (lawOf s) ≡ true
-small-law {s} a =
-    let n = law-small a in
-    rw (
-      lt-ltb (lawOf s .fcd) 65536 (n .fcd),
-      lt-ltb (lawOf s .s1) 65536 (n .s1),
-      lt-ltb (lawOf s .s2) 65536 (n .s2),
-      lt-ltb (lawOf s .s3) 65536 (n .s3),
-      lt-ltb (lawOf s .e1) 65536 (n .e1),
-      lt-ltb (lawOf s .e2) 65536 (n .e2),
-      lt-ltb (lawOf s .e3) 65536 (n .e3),
-    )
+small-law {s} a = small-is (lawOf s) (law-small a)

@@ -2,11 +2,12 @@
 // 'Strains, strips and balance').
 ghost use mathlib.Core.Path.{_≡_};
 ghost use mathlib.Core.Bool.{true, false};
-ghost use Prim.Native.Nat.{ℕ, _+_, _-_, _*_, _≤_, _<_};
+ghost use Prim.Native.Nat.{ℕ, _+_, _-_, _*_, _/_, _^_, _≤_, _<_};
 ghost use lib.Dec.{leb};
 ghost use Rattle.arith.specs.Sums.{sumN, after};
 ghost use Rattle.law.specs.Stress.{signed};
 ghost use Rattle.strips.specs.Strips.{reach, stripSize, runOf};
+ghost use Rattle.strips.specs.Code.{wholeAt, Room, bentAt, Bent, lineAt, Straight, Cut, rampAt, pulledAt, half, steady, Steady, OnRamp};
 use law::Law;
 
 // A neutral axis at depth x. The strain at a position, which is twice a depth, is 500 unit (2 x - position) / over.
@@ -57,17 +58,144 @@ fn total(law: Law, pulls: bool, axis: Axis, from: u16, to: u16) -> u64
     sum
 }
 
-// A number of strips at the top that are compressed by more than 2000, and so all bear fcd.
-fn level(axis: Axis) -> u16
-    ensures { λ r. ⌜ (r ≤ axis .x) × ((i : ℕ) → i < r → 4 * axis .over < axis .unit * reach false (axis .x) i) ⌝ }
+// Whether law and axis are of the size that every section's are of: for these a sum is stepped, for others each strip is divided for.
+fn steady(law: Law, axis: Axis) -> bool
+    ensures { λ r. ⌜ r ≡ steady law axis ⌝ }
 {
     let unit = axis.unit as u32;
-    let face = 2 * unit * (axis.x as u32);
-    let bound = 4 * (axis.over as u32);
-    if (unit == 0) | (face <= bound) {
+    let over = axis.over as u32;
+    let half = over / 2;
+    let e1 = law.e1 as u64;
+    let e2 = law.e2 as u64;
+    let e3 = law.e3 as u64;
+    (2 * half == over)
+        & (half <= 1000)
+        & (5 <= unit)
+        & (unit <= 3 * half)
+        & (law.fcd < 32768)
+        & (law.s1 < 10000)
+        & (law.s2 < 10000)
+        & (law.s3 < 10000)
+        & (30 <= e1)
+        & (e1 + 30 <= e2)
+        & (e2 + 30 <= e3)
+        & (e3 < 65536)
+        & (e3 * (half as u64) <= 30000000)
+}
+
+// Where the strips from..to, by their places from the axis, pass a limit: unit times the reach of those before it is at most that.
+fn cut(limit: u32, unit: u32, from: u16, to: u16) -> u16
+    requires { ⌜ (0 < unit) × (limit < 65536 * unit) × (from ≤ to) ⌝ }
+    ensures { λ r. ⌜ Cut limit unit from to r ⌝ }
+{
+    most(from, least(((limit / unit + 1) / 2) as u16, to))
+}
+
+// m n over some parts, rounded down, where m n itself may not fit.
+fn share(m: u64, n: u64, parts: u64) -> u64
+    requires { ⌜ (0 < parts) × (parts * n < 2 ^ 64) × (m * n < 2 ^ 64 * parts) ⌝ }
+    ensures { λ r. ⌜ r ≡ m * n / parts ⌝ }
+{
+    m / parts * n + m % parts * n / parts
+}
+
+// The whole parts, of parts of 2⁴⁵, of a number that climbs: an addition for it, one for its step, and a shift a strip.
+fn climb(first: u64, step: u64, bend: u64, count: u16) -> u64
+    requires { ⌜ Room first step bend count ⌝ }
+    ensures { λ r. ⌜ r ≡ sumN count (wholeAt first step bend) ⌝ }
+{
+    let turns = count as u64;
+    let mut number = first;
+    let mut by = step;
+    let mut sum: u64 = 0;
+    for i in 0..turns {
+        sum = sum + number / 35184372088832;
+        number = number + by;
+        by = by + bend;
+    }
+    sum
+}
+
+// Strips of the parabola, downwards from its top: what each loses is rounded up.
+fn parabola(fcd: u64, half: u64, unit: u64, first: u64, count: u16) -> u64
+    requires { ⌜ Bent fcd half unit first count ⌝ }
+    ensures { λ r. ⌜ (r ≡ sumN count (bentAt fcd half unit first)) × (r ≤ fcd * count) ⌝ }
+{
+    let m = fcd * 562949953421312 / (half * half);
+    let lost = climb(
+        share(m, first * first, 1024) + 35184372088831,
+        share(m, 4 * unit * (first + unit), 1024),
+        share(m, 8 * unit * unit, 1024),
+        count,
+    );
+    fcd * (count as u64) - lost
+}
+
+// Strips of a line, upwards from its lower end. Both numbers are rounded up, so that a whole stress is not missed.
+fn line(height: u64, den: u64, first: u64, step: u64, count: u16) -> u64
+    requires { ⌜ Straight height den first step count ⌝ }
+    ensures { λ r. ⌜ (r ≡ sumN count (lineAt height den first step)) × (r ≤ 10000 * count) ⌝ }
+{
+    let m = height * 1125899906842624 / den + 1;
+    climb(share(m, first, 32) + 1, share(m, step, 32) + 1, 0, count)
+}
+
+// A run of strips on the ramp from (ea, sa) to (eb, sb), by their places from the axis. It is walked from its lower end.
+fn ramp(axis: Axis, ea: u32, sa: u32, eb: u32, sb: u32, from: u16, to: u16) -> u64
+    requires { ⌜ OnRamp axis ea sa eb sb from to ⌝ }
+    ensures { λ r. ⌜ (r ≡ sumN (to - from) (after from (rampAt axis ea sa eb sb))) × (r ≤ 20000 * 65536) ⌝ }
+{
+    if to <= from {
         return 0;
     }
-    ((face - bound) / (2 * unit)) as u16
+    let half = axis.over as u64 / 2;
+    let unit = 250 * (axis.unit as u64);
+    let den = (eb - ea) as u64 * half;
+    let count = to - from;
+    if sa <= sb {
+        let first = unit * (2 * (from as u64) + 1) - ea as u64 * half;
+        return sa as u64 * (count as u64) + line((sb - sa) as u64, den, first, 2 * unit, count);
+    }
+    let first = eb as u64 * half - unit * (2 * (to as u64) - 1);
+    sb as u64 * (count as u64) + line((sa - sb) as u64, den, first, 2 * unit, count)
+}
+
+// Stretched strips, by their places from the axis: three ramps, and nothing beyond e3.
+fn pulled(law: Law, axis: Axis, from: u16, to: u16) -> u64
+    requires { ⌜ (Steady law axis) × (from ≤ to) ⌝ }
+    ensures { λ r. ⌜ (r ≡ sumN (to - from) (after from (pulledAt law axis))) × (r ≤ 60000 * 65536) ⌝ }
+{
+    let half = axis.over as u32 / 2;
+    let unit = 250 * (axis.unit as u32);
+    let end1 = cut(law.e1 * half, unit, from, to);
+    let end2 = cut(law.e2 * half, unit, from, to);
+    let end3 = cut(law.e3 * half, unit, from, to);
+    let one = ramp(axis, 0, 0, law.e1, law.s1, from, end1);
+    let two = ramp(axis, law.e1, law.s1, law.e2, law.s2, end1, end2);
+    one + two + ramp(axis, law.e2, law.s2, law.e3, law.s3, end2, end3)
+}
+
+// Compressed strips, by their places from the axis: those past the parabola's top bear fcd and are counted.
+fn pressed(law: Law, axis: Axis, from: u16, to: u16) -> u64
+    requires { ⌜ (Steady law axis) × (from ≤ to) × (to ≤ axis .x) ⌝ }
+    ensures { λ r. ⌜ (r ≡ sumN (to - from) (after (axis .x - to) (stripSize law false axis))) × (r ≤ 65536 * 65536) ⌝ }
+{
+    let unit = axis.unit as u32;
+    let limit = 4 * (axis.over as u32);
+    let top = cut(limit, unit, from, to);
+    let level = law.fcd as u64 * ((to - top) as u64);
+    if top == from {
+        return level;
+    }
+    let first = limit - unit * (2 * (top as u32) - 1);
+    level
+        + parabola(
+            law.fcd as u64,
+            axis.over as u64 / 2,
+            unit as u64,
+            first as u64,
+            top - from,
+        )
 }
 
 // The stress of a strip, rounded, with its sign.
@@ -81,7 +209,7 @@ pub fn strip(law: Law, axis: Axis, i: u16) -> i64
     }
 }
 
-// The sum over a run of strips as compressed concrete, `to` not among them. Those that are level are not looked at one by one.
+// The sum over a run of strips as compressed concrete, `to` not among them.
 pub fn compressed(law: Law, axis: Axis, from: u16, to: u16) -> i64
     ensures { λ r. ⌜ r ≡ runOf law false axis from to ⌝ }
 {
@@ -89,14 +217,19 @@ pub fn compressed(law: Law, axis: Axis, from: u16, to: u16) -> i64
     if end <= from {
         return 0;
     }
-    let start = most(from, least(level(axis), end));
-    let flat = size(law, false, axis, from) * ((start - from) as u64);
-    (flat + total(law, false, axis, start, end)) as i64
+    if steady(law, axis) {
+        return pressed(law, axis, axis.x - end, axis.x - from) as i64;
+    }
+    total(law, false, axis, from, end) as i64
 }
 
 // The same as stretched concrete, and so not above zero.
 pub fn stretched(law: Law, axis: Axis, from: u16, to: u16) -> i64
     ensures { λ r. ⌜ r ≡ runOf law true axis from to ⌝ }
 {
-    -(total(law, true, axis, most(from, axis.x), to) as i64)
+    let start = most(from, axis.x);
+    if (start < to) & steady(law, axis) {
+        return -(pulled(law, axis, start - axis.x, to - axis.x) as i64);
+    }
+    -(total(law, true, axis, start, to) as i64)
 }

@@ -64,11 +64,6 @@ impl Fraction {
         Fraction::new((self.num - whole * self.den).abs(), self.den)
     }
 
-    /// The whole number next to it, towards zero.
-    pub fn towards_zero(self) -> i128 {
-        self.num / self.den
-    }
-
     pub fn is_whole(self) -> bool {
         self.num % self.den == 0
     }
@@ -125,6 +120,13 @@ impl Fraction {
             true => apart == 0,
             false => 1_000_000 * apart <= self.den * held.den,
         }
+    }
+}
+
+/// Of a numerator and a denominator.
+impl From<(i64, i64)> for Fraction {
+    fn from((num, den): (i64, i64)) -> Fraction {
+        Fraction::new(num.into(), den.into())
     }
 }
 

@@ -66,19 +66,28 @@ impl Held {
         for (function, answer) in [(b'i', amounts.imbalance), (b'm', amounts.moment)] {
             let mut case = of_record(function, record);
             case.extend(x.to_le_bytes());
-            self.amount(case, answer);
+            self.answers(case, &[answer]);
         }
+    }
+
+    /// That `fw_imbalance` gives these at the depths from 1 on: one case, so that the record is handed over once.
+    pub fn imbalances(&mut self, record: &[u8], imbalances: &[Amount]) {
+        let mut case = of_record(b'e', record);
+        case.extend((imbalances.len() as u32).to_le_bytes());
+        self.answers(case, imbalances);
     }
 
     /// That `fw_shear` gives this amount.
     pub fn shear(&mut self, record: &[u8], answer: Amount) {
-        self.amount(of_record(b's', record), answer);
+        self.answers(of_record(b's', record), &[answer]);
     }
 
-    /// Ends a case of a function that answers an amount.
-    fn amount(&mut self, mut case: Vec<u8>, answer: Amount) {
-        case.extend(answer.refusal.to_le_bytes());
-        case.extend(answer.amount.to_le_bytes());
+    /// Ends a case whose answers are amounts.
+    fn answers(&mut self, mut case: Vec<u8>, answers: &[Amount]) {
+        for answer in answers {
+            case.extend(answer.refusal.to_le_bytes());
+            case.extend(answer.amount.to_le_bytes());
+        }
         self.case(&case);
     }
 

@@ -8,7 +8,9 @@ mod law;
 mod section;
 mod shear;
 
-pub use balance::{amounts, area, exact, list_of, rounded, write, Amount, List, Listed, Sums};
+pub use balance::{
+    amounts, area, exact, list_of, rounded, write, Amount, Axis, List, Listed, Sums,
+};
 pub use book::{book, lines, record, Book, BookAnswer, Bound, Lines, RecordAnswer, LINES};
 pub use class::{class, Class, LETTERS, STEPS};
 pub use drawn::{draw, stress_drawn, Drawn, Point};

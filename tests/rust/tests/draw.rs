@@ -93,14 +93,6 @@ fn the_rules_point_is_right() {
     each_case(|record, strain| assert_right(record, strain, rules::draw(record, strain)));
 }
 
-/// Which piece of the law a strain is on: the three lines from the outermost in, the parabola, the plateau.
-fn piece(law: &Law, strain: i32) -> usize {
-    let ends = law.corners[1..].iter().map(|corner| corner.0);
-    ends.chain([2000])
-        .filter(|end| *end < strain.into())
-        .count()
-}
-
 #[test]
 fn the_strains_reach_every_piece_and_every_kind_of_tension() {
     let mut pieces = BTreeSet::new();
@@ -110,13 +102,13 @@ fn the_strains_reach_every_piece_and_every_kind_of_tension() {
             return;
         };
         let law = Law::of(&Section::of(record).unwrap());
-        pieces.insert(piece(&law, strain));
+        pieces.insert(law.piece(strain.into(), 1));
         if strain < 0 {
             tensions.insert((stress.is_whole(), stress.is_zero()));
         }
     });
     let kinds = [(false, false), (true, false), (true, true)];
-    assert_eq!(pieces, BTreeSet::from([0, 1, 2, 3, 4]));
+    assert_eq!(pieces, BTreeSet::from([1, 2, 3, 4, 5]));
     assert_eq!(tensions, BTreeSet::from(kinds));
 }
 

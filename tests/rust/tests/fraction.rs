@@ -75,9 +75,8 @@ fn a_sum_is_exact() {
 }
 
 #[test]
-fn a_fraction_is_rounded_towards_zero_and_held_to_whole_numbers() {
-    let (above, below) = (Fraction::new(7, 2), Fraction::new(-7, 2));
-    assert_eq!((above.towards_zero(), below.towards_zero()), (3, -3));
+fn a_fraction_is_held_to_whole_numbers() {
+    let below = Fraction::new(-7, 2);
     assert!(below > -4 && below < -3 && below.times(-4) == 14);
     assert!(below.apart(-3) < 1 && below.apart(-3).times(2) == 1 && below.apart(-5).times(2) == 3);
 }

@@ -1,5 +1,5 @@
--- `compressed`: level strips, then those down to the axis. Assumes nothing.
-use Prim.Native.Nat.{ℕ, _+_, _*_, _-_, _^_, _≤_, _<_}
+-- `compressed`: the strips above the axis. Assumes nothing.
+use Prim.Native.Nat.{ℕ, _-_, _≤_}
 use mathlib.Core.Path.{_≡_, sym, ap, _∙_}
 use mathlib.Core.Bool.{false}
 use native.Mathlib.Nat as NatL
@@ -7,15 +7,36 @@ use native.Mathlib.Omega.{arith}
 use lib.IntN.{pos}
 use borrow.Author.Tests.{lt-leb}
 use borrow.Author.Needs.{needs}
+use Rattle.arith.specs.Sums.{sumN, after}
 use Rattle.arith.proofs.Machine.{read-pos}
-use Rattle.arith.proofs.Sums.{run-nil, run-middle}
-use Rattle.law.specs.Stress.{flat}
-use Rattle.law.specs.Sizes.{sizeIn}
+use Rattle.arith.proofs.Sums.{run-nil, run-early}
+use Rattle.law.specs.declared.Law.{Law}
+use Rattle.strips.specs.declared.Axis.{Axis}
 use Rattle.strips.specs.Strips.{stripSize}
+use Rattle.strips.specs.Code.{Steady}
 use Rattle.strips.proofs.Runs.{strip-none}
-use Rattle.strips.proofs.Plateau.{level-size}
+use Rattle.strips.proofs.Tests.{is-steady}
 use Rattle.strips.proofs.compressed.Statement.{statement}
 use Rattle.strips.proofs.compressed.Tie as tie
+
+-- those below it have no strain
+early : (l : Law) (a : Axis) (from end to : ℕ) → end ≡ to - (to - a .x) → from ≤ end
+    → sumN (end - from) (after from (stripSize l false a)) ≡ sumN (to - from) (after from (stripSize l false a))
+early l a from end to e h = run-early (stripSize l false a) from end to h (omega arith) (λ i p q. strip-none l a i false (omega arith))
+
+-- by their places from it
+placed : (f : ℕ → ℕ) (x from end : ℕ) → from ≤ end → end ≤ x → sumN (x - from - (x - end)) (after (x - (x - from)) f) ≡ sumN (end - from) (after from f)
+placed f x from end h k =
+    let count : x - from - (x - end) ≡ end - from = omega arith in
+    let start : x - (x - from) ≡ from = omega arith in
+    λ i. sumN (count i) (after (start i) f)
+
+-- there are strips above the axis
+some : (c : tie.Else1) → let a = c .before .before .args in (a .from ≤ c .before .least .result) × (c .before .least .result ≤ a .axis .x)
+some c = (omega arith, omega (arith, c .before .least .ensures))
+
+tested : (c : tie.Then2) → let a = c .before .before .before .before .args in Steady (a .law) (a .axis)
+tested c = let a = c .before .before .before .before .args in is-steady (a .law) (a .axis) .0 (sym (c .before .steady .ensures) ∙ c .if2 .taken)
 
 returns : tie.Need-returns
 returns c =
@@ -24,35 +45,22 @@ returns c =
     let t = c .if1 .taken in
     ap pos (run-nil (stripSize (a .law) false (a .axis)) (a .from) (a .to) (λ i p q. strip-none (a .law) (a .axis) i false (omega arith)))
 
-size-requires : tie.Need-size-requires
-size-requires c κs =
-    let a = c .before .before .before .before .before .args in
-    lt-leb (a .axis .x) (a .from) (omega (arith, c .before .before .before .before .least .ensures, c .before .before .before .if1 .left))
-
-total-requires : tie.Need-total-requires
-total-requires c κs i p q = lt-leb (c .before .before .before .before .before .before .args .axis .x) i (omega (arith, c .before .before .before .before .before .least .ensures))
-
-flat-most : (c : tie.After-size) → c .size .result * (c .before .most .result - c .before .before .before .before .before .before .args .from) ≤ 65535 * 65535
-flat-most c = NatL.mul-le-mul {n₂ = 65535} {m₂ = 65535} (omega (arith, c .size .ensures .1)) (omega arith)
-
-sum-most : (c : tie.After-total) → c .before .size .result * (c .before .before .most .result - c .before .before .before .before .before .before .before .args .from) + c .total .result < 2 ^ 63
-sum-most c = omega (arith, flat-most (c .before), c .total .ensures .1)
-
 returns-2 : tie.Need-returns-2
 returns-2 c =
     let a = c .before .before .before .before .before .before .before .args in
-    let f = stripSize (a .law) false (a .axis) in
-    let start = c .before .before .most in
-    let top = c .before .before .before .least2 in
-    let level = c .before .before .before .before .level in
     let end = c .before .before .before .before .before .before .least in
-    let alike : (i : ℕ) → i < level .result → f i ≡ sizeIn (a .law) (flat false (a .law .fcd)) = λ i k. level-size (a .law) (a .axis) i (level .ensures .1 i k) in
-    read-pos _ (sum-most c)
+    let h = some (c .before .before .before .before .before) in
+    read-pos (c .pressed .result) (omega (arith, c .pressed .ensures .1))
     ∙ ap pos
-    (ap (λ n. c .before .size .result * (start .result - a .from) + n) (c .total .ensures .0)
-    ∙ run-middle f (c .before .size .result) (a .from) (start .result) (end .result) (a .to) (omega arith) (omega arith) (omega arith)
-    (λ i p q. alike i (omega arith) ∙ sym (c .before .size .ensures .0 ∙ alike (a .from) (omega arith)))
-    (λ i p q. strip-none (a .law) (a .axis) i false (omega arith)))
+    (c .pressed .ensures .0 ∙ placed (stripSize (a .law) false (a .axis)) (a .axis .x) (a .from) (end .result) (h .0) (h .1)
+    ∙ early (a .law) (a .axis) (a .from) (end .result) (a .to) (end .ensures) (h .0))
+
+returns-3 : tie.Need-returns-3
+returns-3 c =
+    let a = c .before .before .before .before .before .args in
+    let end = c .before .before .before .before .least in
+    read-pos (c .total .result) (omega (arith, c .total .ensures .1))
+    ∙ ap pos (c .total .ensures .0 ∙ early (a .law) (a .axis) (a .from) (end .result) (a .to) (end .ensures) (some (c .before .before .before) .0))
 
 pub compressed-spec : {M : Type 1} → statement M
 compressed-spec =
@@ -61,13 +69,11 @@ compressed-spec =
     (λ c κs. search needs)
     returns
     (λ c κs. search needs)
-    (λ c κs. search needs)
-    (λ c κs. search needs)
-    size-requires
-    (λ c. search needs)
-    (λ c. search needs)
-    (λ c. record { fits = omega (arith, flat-most c) })
-    total-requires
-    (λ c. record { fits = omega (arith, sum-most c) })
-    (λ c. record { sfits = sum-most c })
-    returns-2)
+    (λ c. some (c .before .before .before) .1)
+    (λ c. let h = some (c .before .before .before .before) in NatL.le-trans (h .0) (h .1))
+    (λ c κs. (tested (c .before .before), NatL.sub-le-sub-left (some (c .before .before .before .before) .0) (c .before .before .before .before .before .before .args .axis .x), NatL.sub-le (c .before .before .before .before .before .before .args .axis .x) (c .before .before .before .before .before .before .args .from)))
+    (λ c. record { sfits = omega (arith, c .pressed .ensures .1) })
+    returns-2
+    (λ c κs i p q. lt-leb (c .before .before .before .before .args .axis .x) i (omega (arith, some (c .before .before))))
+    (λ c. record { sfits = omega (arith, c .total .ensures .1) })
+    returns-3)

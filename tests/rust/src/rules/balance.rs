@@ -16,7 +16,7 @@ impl Amount {
     /// Of a sum or a refusal.
     pub fn of(sum: Result<i128, u32>) -> Amount {
         let (refusal, amount) = match sum {
-            Ok(sum) => (0, whole(sum)),
+            Ok(sum) => (0, i64::try_from(sum).expect("amounts fit in 64 bits")),
             Err(refusal) => (refusal, 0),
         };
         Amount { refusal, amount }
@@ -40,44 +40,67 @@ pub struct Sums<T> {
 
 /// A strip or a bar layer: its area, twice its distance above mid-height, its exact stress.
 struct Share {
-    area: i128,
-    lever: i128,
-    stress: Fraction,
+    area: i64,
+    lever: i64,
+    stress: (i64, i64),
+}
+
+/// The neutral axis at depth x: the strain at depth y is slope (x - y) / over.
+pub struct Axis {
+    x: i64,
+    pub slope: i64,
+    over: i64,
+}
+
+impl Axis {
+    /// Of an accepted section at a depth on the grid.
+    pub fn of(section: &Section, x: u16) -> Axis {
+        let [d, x] = [section.effective_depth(), x].map(i64::from);
+        let (slope, over) = match 7 * d > 27 * x {
+            true => (10_000, d - x),
+            false => (3500, x),
+        };
+        Axis { x, slope, over }
+    }
+
+    /// Numerator and denominator of the strain at half of this: twice a depth is whole in the middle of a strip too.
+    pub fn strain(&self, twice: i64) -> (i64, i64) {
+        (self.slope * (2 * self.x - twice), 2 * self.over)
+    }
 }
 
 /// Every strip and bar layer of an accepted section, with the neutral axis at depth x.
 fn shares(section: &Section, x: u16) -> Vec<Share> {
-    let law = Law::of(section);
-    let [b, h, d, x] = [section.b, section.h, section.effective_depth(), x].map(i128::from);
-    let (slope, over) = match 7 * d > 27 * x {
-        true => (10_000, d - x),
-        false => (3500, x),
-    };
-    // Twice a depth is whole in the middle of a strip too.
-    let share = |area, twice, stress: fn(&Law, i128, i128) -> Fraction| Share {
-        area,
-        lever: h - twice,
-        stress: stress(&law, slope * (2 * x - twice), 2 * over),
+    let (law, axis) = (Law::of(section), Axis::of(section, x));
+    let [b, h] = [section.b, section.h].map(i64::from);
+    let share = |area, twice, stress: fn(&Law, i64, i64) -> (i64, i64)| {
+        let (p, q) = axis.strain(twice);
+        Share {
+            area,
+            lever: h - twice,
+            stress: stress(&law, p, q),
+        }
     };
     let strips = (0..h).map(|strip| share(b, 2 * strip + 1, Law::stress));
     let bars = section.layers.iter().map(|layer| {
         share(
             layer.area.into(),
-            2 * i128::from(layer.depth),
+            2 * i64::from(layer.depth),
             Law::bar_stress,
         )
     });
     strips.chain(bars).collect()
 }
 
-/// The rules' sums of an accepted section at a depth on the grid.
-pub fn rounded(section: &Section, x: u16) -> Sums<i128> {
+/// The rules' sums of an accepted section at a depth on the grid: a division for each strip and bar layer.
+pub fn rounded(section: &Section, x: u16) -> Sums<i64> {
     let mut sums = Sums {
-        imbalance: -1000 * i128::from(section.load),
+        imbalance: -1000 * i64::from(section.load),
         moment: 0,
     };
     for share in shares(section, x) {
-        let force = share.area * share.stress.towards_zero();
+        let (num, den) = share.stress;
+        let force = share.area * (num / den);
         sums.imbalance += force;
         sums.moment += share.lever * force;
     }
@@ -87,13 +110,13 @@ pub fn rounded(section: &Section, x: u16) -> Sums<i128> {
 /// The exact sums: the same with unrounded stresses.
 pub fn exact(section: &Section, x: u16) -> Sums<Fraction> {
     let shares = shares(section, x);
-    let force = |share: &Share| share.stress.times(share.area);
+    let force = |share: &Share| Fraction::from(share.stress).times(share.area.into());
     let load = Fraction::new(-1000 * i128::from(section.load), 1);
     Sums {
         imbalance: shares.iter().map(force).chain([load]).sum(),
         moment: shares
             .iter()
-            .map(|share| force(share).times(share.lever))
+            .map(|share| force(share).times(share.lever.into()))
             .sum(),
     }
 }
@@ -108,26 +131,22 @@ pub type List = Vec<[i64; 3]>;
 
 /// Those of an accepted section.
 fn list(section: &Section) -> List {
-    let sums: Vec<Sums<i128>> = (1..=section.h).map(|x| rounded(section, x)).collect();
+    let sums: Vec<Sums<i64>> = (1..=section.h).map(|x| rounded(section, x)).collect();
     // What stands after the last depth is opposite to nothing.
-    let signs: Vec<i128> = sums
+    let signs: Vec<i64> = sums
         .iter()
         .map(|sums| sums.imbalance.signum())
         .chain([0])
         .collect();
-    let kind = |pair: &[i128]| match (pair[0], pair[0] * pair[1]) {
+    let kind = |pair: &[i64]| match (pair[0], pair[0] * pair[1]) {
         (0, _) => Some(1),
         (_, -1) => Some(2),
         _ => None,
     };
     let depths = (1..).zip(signs.windows(2)).zip(sums);
     depths
-        .filter_map(|((x, pair), sums)| kind(pair).map(|kind| [x, kind, whole(sums.moment)]))
+        .filter_map(|((x, pair), sums)| kind(pair).map(|kind| [x, kind, sums.moment]))
         .collect()
-}
-
-fn whole(n: i128) -> i64 {
-    i64::try_from(n).expect("amounts fit in 64 bits")
 }
 
 /// What `fw_imbalance` and `fw_moment` answer.
@@ -137,8 +156,8 @@ pub fn amounts(record: &[u8], x: u32) -> Sums<Amount> {
         on_grid.then(|| rounded(&section, x as u16)).ok_or(18)
     });
     Sums {
-        imbalance: Amount::of(sums.map(|sums| sums.imbalance)),
-        moment: Amount::of(sums.map(|sums| sums.moment)),
+        imbalance: Amount::of(sums.map(|sums| sums.imbalance.into())),
+        moment: Amount::of(sums.map(|sums| sums.moment.into())),
     }
 }
 

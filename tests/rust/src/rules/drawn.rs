@@ -32,7 +32,7 @@ pub fn stress_drawn(record: &[u8], strain: i32) -> Result<Fraction, u32> {
     if !(-10_000..=3500).contains(&strain) {
         return Err(18);
     }
-    Ok(Law::of(&section).stress(strain.into(), 1))
+    Ok(Law::of(&section).stress(strain.into(), 1).into())
 }
 
 pub fn draw(record: &[u8], strain: i32) -> Drawn {

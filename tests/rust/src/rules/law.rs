@@ -1,15 +1,15 @@
-//! Stress at a strain, exactly, of concrete and of bars. Compression is positive.
+//! Stress at a strain, exactly, of concrete and of bars: a numerator and a denominator, which is above 0. Compression is positive. 64 bits
+//! hold every product and take half the time of 128; one that they don't hold would panic.
 use super::section::Section;
-use crate::fraction::Fraction;
 
 /// A column of document 01's table: fck and the modulus E in N/mm², the mean flexural strength in kPa.
 pub struct Concrete {
     pub fck: u16,
-    pub flexural: i128,
-    pub modulus: i128,
+    pub flexural: i64,
+    pub modulus: i64,
 }
 
-const fn concrete(fck: u16, flexural: i128, modulus: i128) -> Concrete {
+const fn concrete(fck: u16, flexural: i64, modulus: i64) -> Concrete {
     Concrete {
         fck,
         flexural,
@@ -30,10 +30,10 @@ pub const TABLE: [Concrete; 7] = [
 /// The whole numbers of a section's law.
 #[derive(Debug, Clone, PartialEq, Eq)]
 pub struct Law {
-    pub fcd: i128,
-    pub fyd: i128,
+    pub fcd: i64,
+    pub fyd: i64,
     /// A strain and its stress at each corner of the tension law, by rising strain: at -e3, -e2, -e1 and 0.
-    pub corners: [(i128, i128); 4],
+    pub corners: [(i64, i64); 4],
 }
 
 impl Law {
@@ -43,39 +43,43 @@ impl Law {
             .iter()
             .find(|concrete| concrete.fck == section.fck)
             .expect("an accepted section's concrete is in the table");
-        let s1 = 7 * concrete.flexural * (1600 - i128::from(section.effective_depth())) / 10_000;
+        let s1 = 7 * concrete.flexural * (1600 - i64::from(section.effective_depth())) / 10_000;
         let e1 = 1000 * s1 / concrete.modulus;
-        let s2 = 45 * i128::from(section.feq2) / 100;
-        let s3 = 37 * i128::from(section.feq3) / 100;
+        let s2 = 45 * i64::from(section.feq2) / 100;
+        let s3 = 37 * i64::from(section.feq3) / 100;
         Law {
-            fcd: i128::from(section.fck) * 1000 * 17 / 30,
-            fyd: i128::from(section.fyk) * 1000 * 100 / 115,
+            fcd: i64::from(section.fck) * 1000 * 17 / 30,
+            fyd: i64::from(section.fyk) * 1000 * 100 / 115,
             corners: [(-10_000, -s3), (-e1 - 100, -s2), (-e1, -s1), (0, 0)],
         }
     }
 
+    /// Which piece a strain of p / q is on, q above 0: 0 beyond e3, 1 to 3 the lines from the outermost in, 4 the parabola, 5 the plateau.
+    pub fn piece(&self, p: i64, q: i64) -> usize {
+        let [e3, e2, e1, zero] = self.corners.map(|(strain, _)| strain);
+        let starts = [e3, e2, e1, zero, 2000];
+        starts.iter().take_while(|start| *start * q <= p).count()
+    }
+
     /// The concrete's stress at a strain of p / q, q above 0.
-    pub fn stress(&self, p: i128, q: i128) -> Fraction {
-        if p > 0 {
-            // The parabola's peak is fcd, at 2000.
-            let p = p.min(2000 * q);
-            return Fraction::new(self.fcd * p * (4000 * q - p), 4_000_000 * q * q);
+    pub fn stress(&self, p: i64, q: i64) -> (i64, i64) {
+        match self.piece(p, q) {
+            0 => (0, 1),
+            line @ 1..=3 => between(self.corners[line - 1], self.corners[line], p, q),
+            4 => (self.fcd * p * (4000 * q - p), 4_000_000 * q * q),
+            _ => (self.fcd, 1),
         }
-        self.corners
-            .windows(2)
-            .find(|line| line[0].0 * q <= p && p <= line[1].0 * q)
-            .map_or(Fraction::new(0, 1), |line| between(line[0], line[1], p, q))
     }
 
     /// A bar's stress at a strain of p / q, q above 0.
-    pub fn bar_stress(&self, p: i128, q: i128) -> Fraction {
+    pub fn bar_stress(&self, p: i64, q: i64) -> (i64, i64) {
         let most = self.fyd * q;
-        Fraction::new((200 * p).clamp(-most, most), q)
+        ((200 * p).clamp(-most, most), q)
     }
 }
 
 /// The stress at p / q on the line through two points.
-fn between((ea, sa): (i128, i128), (eb, sb): (i128, i128), p: i128, q: i128) -> Fraction {
+fn between((ea, sa): (i64, i64), (eb, sb): (i64, i64), p: i64, q: i64) -> (i64, i64) {
     let run = (eb - ea) * q;
-    Fraction::new(sa * run + (sb - sa) * (p - ea * q), run)
+    (sa * run + (sb - sa) * (p - ea * q), run)
 }

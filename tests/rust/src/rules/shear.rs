@@ -31,7 +31,7 @@ impl Shear {
             bd,
             stirrups: match asw {
                 0 => 0,
-                _ => 9 * asw * d * Law::of(section).fyd / (10 * s),
+                _ => 9 * asw * d * i128::from(Law::of(section).fyd) / (10 * s),
             },
             struts: (700 - 5 * fck).max(500) * (2000 * fck / 3) * 9 * bd / 20_000,
         }

@@ -1,0 +1,108 @@
+-- Sums over strips that go without a division a strip. Along one piece of the law the numerator of a stress is linear or quadratic in the number of
+-- the strip and its denominator stays, so that the fraction, held in parts of 2⁴⁵, is stepped by additions. Here is what is summed, and the sizes of
+-- law and axis within which the whole part stays the rounded stress.
+use Prim.Native.Nat.{ℕ, zero, suc, _+_, _*_, _-_, _/_, _^_, _≤_, _<_}
+use mathlib.Core.Path.{_≡_}
+use mathlib.Core.Bool.{Bool, _&&_}
+use lib.Dec.{eqb, ltb, leb}
+use Rattle.law.specs.declared.Law.{Law}
+use Rattle.law.specs.Stress.{size, ramp, stretched}
+use Rattle.strips.specs.declared.Axis.{Axis}
+use Rattle.strips.specs.Strips.{middle}
+
+-- ---- a number that climbs by a step which climbs by a bend
+-- 0 + 1 + .. + (n - 1)
+unfoldable pub triangle : ℕ → ℕ
+triangle zero = 0
+triangle (suc n) = triangle n + n
+
+abbrev pub climbed : ℕ → ℕ → ℕ → ℕ → ℕ
+climbed first step bend i = first + step * i + bend * triangle i
+
+-- its whole part, of so many parts to the whole
+abbrev pub parts : ℕ
+parts = 2 ^ 45
+
+abbrev pub wholeAt : ℕ → ℕ → ℕ → ℕ → ℕ
+wholeAt first step bend i = climbed first step bend i / parts
+
+-- after n turns both fit
+pub record Room (first step bend n : ℕ) : Type 0 where
+  pub number : climbed first step bend n < 2 ^ 64
+  pub by : step + bend * n < 2 ^ 64
+
+-- ---- the parabola: fcd less what is lost w below its top, which lies at 8 half; w is `first` at the first strip and rises by 2 unit
+abbrev pub bentAt : ℕ → ℕ → ℕ → ℕ → ℕ → ℕ
+bentAt fcd half unit first i = fcd * (64 * (half * half) - (first + 2 * unit * i) * (first + 2 * unit * i)) / (64 * (half * half))
+
+pub record Bent (fcd half unit first n : ℕ) : Type 0 where
+  pub weak : fcd < 32768
+  pub over : (0 < half) × (half ≤ 1000)
+  pub by : (5 ≤ unit) × (unit ≤ 3 * half)
+  pub last : first + 2 * unit * (n - 1) ≤ 8 * half
+
+-- ---- a line from its lower end: w beyond that end, which is `first` at the first strip and rises by a step
+abbrev pub lineAt : ℕ → ℕ → ℕ → ℕ → ℕ → ℕ
+lineAt height den first step i = height * (first + step * i) / den
+
+pub record Straight (height den first step n : ℕ) : Type 0 where
+  pub low : height < 10000
+  pub over : (0 < den) × (den ≤ 30000000)
+  pub by : step ≤ 50 * den
+  pub last : first + step * (n - 1) ≤ den
+
+-- ---- strips by their place from the axis: the reach of the j-th is 2 j + 1
+-- where those from..to pass a limit
+pub record Cut (limit unit from to at : ℕ) : Type 0 where
+  pub between : (from ≤ at) × (at ≤ to)
+  pub inside : (j : ℕ) → from ≤ j → j < at → unit * middle j ≤ limit
+  pub outside : (j : ℕ) → at ≤ j → j < to → limit < unit * middle j
+
+abbrev pub rampAt : Axis → (ea sa eb sb : ℕ) → ℕ → ℕ
+rampAt a ea sa eb sb j = size (ramp ea sa eb sb (500 * a .unit * middle j) (a .over))
+
+abbrev pub pulledAt : Law → Axis → ℕ → ℕ
+pulledAt l a j = size (stretched l (500 * a .unit * middle j) (a .over))
+
+-- ---- the sizes of law and axis
+abbrev pub half : Axis → ℕ
+half a = a .over / 2
+
+pub record AxisSteady (a : Axis) : Type 0 where
+  pub even : a .over ≡ 2 * half a
+  pub over : (0 < half a) × (half a ≤ 1000)
+  pub by : (5 ≤ a .unit) × (a .unit ≤ 3 * half a)
+
+pub record Steady (l : Law) (a : Axis) : Type 0 where
+  pub axis : AxisSteady a
+  pub fcd : l .fcd < 32768
+  pub s1 : l .s1 < 10000
+  pub s2 : l .s2 < 10000
+  pub s3 : l .s3 < 10000
+  pub e1 : 30 ≤ l .e1
+  pub e2 : l .e1 + 30 ≤ l .e2
+  pub e3 : (l .e2 + 30 ≤ l .e3) × (l .e3 < 65536) × (l .e3 * half a ≤ 30000000)
+
+-- and as a test
+abbrev pub steady : Law → Axis → Bool
+steady l a =
+    eqb (2 * half a) (a .over)
+    && leb (half a) 1000
+    && leb 5 (a .unit)
+    && leb (a .unit) (3 * half a)
+    && ltb (l .fcd) 32768
+    && ltb (l .s1) 10000
+    && ltb (l .s2) 10000
+    && ltb (l .s3) 10000
+    && leb 30 (l .e1)
+    && leb (l .e1 + 30) (l .e2)
+    && leb (l .e2 + 30) (l .e3)
+    && ltb (l .e3) 65536
+    && leb (l .e3 * half a) 30000000
+
+-- a ramp of such a size, with the strips from..to on it
+pub record OnRamp (a : Axis) (ea sa eb sb from to : ℕ) : Type 0 where
+  pub axis : AxisSteady a
+  pub ends : (ea + 30 ≤ eb) × (eb < 65536) × (eb * half a ≤ 30000000)
+  pub stresses : (sa < 10000) × (sb < 10000)
+  pub on : (j : ℕ) → from ≤ j → j < to → (ea * half a < 250 * a .unit * middle j) × (250 * a .unit * middle j ≤ eb * half a)
