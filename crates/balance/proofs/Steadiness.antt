@@ -1,7 +1,6 @@
--- No depth of an accepted section costs a division a strip: its law and each of its axes are steady. Assumes nothing.
+-- No imbalance of an accepted section costs a division a strip: its law and each of its axes are steady. Assumes nothing.
 use Prim.Native.Nat.{ℕ, _*_, _-_, _≤_}
 use mathlib.Core.Path.{_≡_, refl, sym, ap, _∙_}
-use mathlib.Core.Bool.{true}
 use mathlib.Core.Logic.{⊎-elim}
 use native.Mathlib.Nat as NatL
 use native.Mathlib.Omega.{arith}
@@ -12,17 +11,16 @@ use Rattle.law.specs.Law.{limitDepth, lawBy, lawOf}
 use Rattle.law.proofs.Ranges.{limit-in, limit-deep, law-in}
 use Rattle.strips.specs.declared.Axis.{Axis}
 use Rattle.strips.specs.Strips.{scaleOf}
-use Rattle.strips.specs.Code.{AxisSteady, steady}
-use Rattle.strips.proofs.Tests.{is-steady}
+use Rattle.strips.specs.Code.{AxisSteady, Steady}
 use Rattle.balance.specs.Forces.{strainScale}
 use Rattle.balance.proofs.Strains.{steep, gentle}
 
 -- an axis by its strains
-scaled : (a : Axis) (unit half : ℕ) → scaleOf a ≡ record { num = 500 * unit; den = 2 * half } → half ≤ 1000 → 5 ≤ unit → unit ≤ 3 * half → AxisSteady a
+scaled : (a : Axis) (unit half : ℕ) → scaleOf a ≡ record { num = 500 * unit; den = 2 * half } → half ≤ 1000 → 7 ≤ unit → unit ≤ 3 * half → AxisSteady a
 scaled a unit half e most low high =
     let u = ap (λ k. k .num) e in
     let o = ap (λ k. k .den) e in
-    record { even = omega arith; over = (omega arith, omega arith); by = (omega arith, omega arith) }
+    record { even = omega arith; over = omega arith; by = (omega arith, omega arith) }
 
 -- d is 26 or more. Half of `over` is x in the gentle case, which is 7 or more, and d - x in the steep one, which is 20 or more
 axis-steady : {s : Section} → Accepted s → (a : Axis) → a .x ≤ s .h → scaleOf a ≡ strainScale s (a .x) → AxisSteady a
@@ -36,12 +34,11 @@ axis-steady {s} k a to e =
     (λ c. scaled a 20 (d - a .x) (e ∙ sym (steep s (a .x) d refl (omega arith))) (omega arith) (omega arith) (omega arith))
     (NatL.eq-zero-or-pos (7 * d - 27 * a .x))
 
-pub always-steady : {s : Section} → Accepted s → (a : Axis) → a .x ≤ s .h → scaleOf a ≡ strainScale s (a .x) → steady (lawOf s) a ≡ true
+pub always-steady : {s : Section} → Accepted s → (a : Axis) → a .x ≤ s .h → scaleOf a ≡ strainScale s (a .x) → Steady (lawOf s) a
 unfolding lawBy edition
 always-steady {s} k a to e =
     let n = law-in k in
     let x = axis-steady k a to e in
-    is-steady (lawOf s) a .1
     record {
       axis = x;
       fcd = omega arith;

@@ -57,10 +57,10 @@ module _ (fcd half : ℕ) (some : 0 < half * half) where
 -- ---- a run of such a size
 module _ {fcd half unit first n : ℕ} (b : Bent fcd half unit first n) where
   pub square-some : 0 < half * half
-  square-some = NatL.mul-pos (b .over .0) (b .over .0)
+  square-some = let some : 0 < half = omega (arith, b .by) in NatL.mul-pos some some
 
   pub square-most : half * half ≤ 1000000
-  square-most = NatL.mul-le-mul {n₂ = 1000} {m₂ = 1000} (b .over .1) (b .over .1)
+  square-most = NatL.mul-le-mul {n₂ = 1000} {m₂ = 1000} (b .over) (b .over)
 
   -- ---- the three numbers that shares are made of
   last-most : first + 2 * unit * n ≤ 14 * half
@@ -93,46 +93,49 @@ module _ {fcd half unit first n : ℕ} (b : Bent fcd half unit first n) where
   lost-most c h = omega (arith, curve-most c h)
 
   -- ---- each strip, and the end
-  few : (i : ℕ) → i < n → 1 + i + triangle i ≤ 320401
+  few : (i : ℕ) → i < n → 1 + i + triangle i ≤ 163307
   few i k =
       let before : i ≤ n - 1 = omega arith in
-      let ten : 10 * i ≤ 2 * unit * i = NatL.mul-le-mul-right {m = 10} {n = 2 * unit} i (omega (arith, b .by .0)) in
-      let most : i ≤ 800 = omega (arith, b .last, b .over .1, NatL.mul-le-mul-left (2 * unit) before) in
+      let steps : 14 * i ≤ 2 * unit * i = NatL.mul-le-mul-right {m = 14} {n = 2 * unit} i (omega (arith, b .by .0)) in
+      let most : i ≤ 571 = omega (arith, b .last, b .over, NatL.mul-le-mul-left (2 * unit) before) in
       omega (arith, square-of i, NatL.mul-le-mul most most)
 
   on-it : (i : ℕ) → i < n → first + 2 * unit * i ≤ 8 * half
   on-it i k = let before : i ≤ n - 1 = omega arith in omega (arith, b .last, NatL.mul-le-mul-left (2 * unit) before)
+
+  -- the i-th number, less what rounds it up
+  abbrev number : ℕ → ℕ
+  number i = climbed (lost (curve fcd half) (first * first)) (lost (curve fcd half) (stepOf unit first)) (lost (curve fcd half) (bendOf unit)) i
+
+  here : (i : ℕ) → let D = 64 * (half * half) in
+      let W = (first + 2 * unit * i) * (first + 2 * unit * i) in
+      (number i * D ≤ parts * (fcd * W)) × (1024 * parts * (fcd * W) < 1024 * (number i * D) + 1024 * ((1 + i + triangle i) * D) + D * W)
+  here i =
+      let near = numbers (curve fcd half) (first * first) (stepOf unit first) (bendOf unit) i in
+      close fcd half square-some _ _ (1 + i + triangle i) (rw (squares unit first i) at (near .0)) (rw (squares unit first i) at (near .1))
+
+  above : (i : ℕ) → climbed (lost (curve fcd half) (first * first) + (parts - 1)) (lost (curve fcd half) (stepOf unit first)) (lost (curve fcd half) (bendOf unit)) i ≡ number i + (parts - 1)
+  above i = omega arith
 
   pub strip-lost : (i : ℕ) → i < n
       → wholeAt (lost (curve fcd half) (first * first) + (parts - 1)) (lost (curve fcd half) (stepOf unit first)) (lost (curve fcd half) (bendOf unit)) i
       + bentAt fcd half unit first i
       ≡ fcd
   strip-lost i k =
-      let m = curve fcd half in
       let D = 64 * (half * half) in
       let W = (first + 2 * unit * i) * (first + 2 * unit * i) in
-      let A = climbed (lost m (first * first)) (lost m (stepOf unit first)) (lost m (bendOf unit)) i in
-      let near = numbers m (first * first) (stepOf unit first) (bendOf unit) i in
-      let here = close fcd half square-some W A (1 + i + triangle i) (rw (squares unit first i) at (near .0)) (rw (squares unit first i) at (near .1)) in
       let within : W ≤ D = omega (arith, NatL.mul-le-mul (on-it i k) (on-it i k)) in
       let wide : D ≤ 64000000 = omega (arith, square-most) in
-      let turns : (1 + i + triangle i) * D ≤ 320401 * 64000000 = NatL.mul-le-mul (few i k) wide in
+      let turns : (1 + i + triangle i) * D ≤ 163307 * 64000000 = NatL.mul-le-mul (few i k) wide in
       let square : D * W ≤ 64000000 * 64000000 = NatL.mul-le-mul {m₁ = W} {m₂ = 64000000} wide (omega (arith, within, wide)) in
-      let above : climbed (lost m (first * first) + (parts - 1)) (lost m (stepOf unit first)) (lost m (bendOf unit)) i ≡ A + (parts - 1) = omega arith in
-      rw above (rounds-up fcd D W A (omega (arith, square-some)) within (here .0) (omega (arith, here .1, turns, square)))
+      rw (above i) (rounds-up fcd D W (number i) (omega (arith, square-some)) within (here i .0) (omega (arith, here i .1, turns, square)))
 
   pub bent-room : Room (lost (curve fcd half) (first * first) + (parts - 1)) (lost (curve fcd half) (stepOf unit first)) (lost (curve fcd half) (bendOf unit)) n
   bent-room =
       let m = curve fcd half in
       let D = 64 * (half * half) in
-      let W = (first + 2 * unit * n) * (first + 2 * unit * n) in
-      let A = climbed (lost m (first * first)) (lost m (stepOf unit first)) (lost m (bendOf unit)) n in
-      let near = numbers m (first * first) (stepOf unit first) (bendOf unit) n in
-      let here = close fcd half square-some W A (1 + n + triangle n) (rw (squares unit first n) at (near .0)) (rw (squares unit first n) at (near .1)) in
-      let far : W ≤ 4 * D = omega (arith, NatL.mul-le-mul last-most last-most) in
-      let fits : A ≤ 4 * parts * fcd = NatL.le-of-mul-le-mul-right {k = D} (omega (arith, here .0, NatL.mul-le-mul-left fcd far)) (omega (arith, square-some)) in
-      let s = lost m (stepOf unit first) in
-      let z = lost m (bendOf unit) in
-      let steps : 1024 * (s + z * n) ≤ m * (stepOf unit first + bendOf unit * n) =
+      let far : (first + 2 * unit * n) * (first + 2 * unit * n) ≤ 4 * D = omega (arith, NatL.mul-le-mul last-most last-most) in
+      let fits : number n ≤ 4 * parts * fcd = NatL.le-of-mul-le-mul-right {k = D} (omega (arith, here n .0, NatL.mul-le-mul-left fcd far)) (omega (arith, square-some)) in
+      let steps : 1024 * (lost m (stepOf unit first) + lost m (bendOf unit) * n) ≤ m * (stepOf unit first + bendOf unit * n) =
       omega (arith, NatL.div-mul-le-self (m * stepOf unit first) 1024, NatL.mul-le-mul-left n (NatL.div-mul-le-self (m * bendOf unit) 1024)) in
-      record { number = omega (arith, fits, b .weak); by = omega (arith, steps, curve-most (stepOf unit first + bendOf unit * n) last-step) }
+      record { number = omega (arith, above n, fits, b .weak); by = omega (arith, steps, curve-most (stepOf unit first + bendOf unit * n) last-step) }

@@ -22,7 +22,7 @@ module _ (height den : ℕ) (some : 0 < den) where
   below = omega (arith, NatL.div-mul-le-self (height * (32 * parts)) den)
 
   -- at w, with at most e parts too many from rounding shares
-  pub line-close :
+  line-close :
       (w A e : ℕ) → slope height den * w ≤ 32 * A → 32 * A ≤ slope height den * w + 32 * e
       → (parts * (height * w) ≤ A * den) × (32 * (A * den) ≤ (32 * parts) * (height * w) + den * w + 32 * (e * den))
   line-close w A e low high = (
@@ -31,7 +31,7 @@ module _ (height den : ℕ) (some : 0 < den) where
   )
 
 -- the i-th number of the line that starts at `first`
-pub line-number : (m first step i : ℕ)
+line-number : (m first step i : ℕ)
     → (m * (first + step * i) ≤ 32 * (risen m first + risen m step * i)) × (32 * (risen m first + risen m step * i) ≤ m * (first + step * i) + 32 * (1 + i))
 line-number m first step i =
     let a = NatL.div-mul-le-self (m * first) 32 in
@@ -61,26 +61,24 @@ module _ {height den first step n : ℕ} (s : Straight height den first step n) 
       let before : i ≤ n - 1 = omega arith in
       omega (arith, s .last, NatL.mul-le-mul-left step before)
 
+  -- the i-th number
+  here : (i : ℕ) → let A = risen (slope height den) first + risen (slope height den) step * i in
+      let w = first + step * i in
+      (parts * (height * w) ≤ A * den) × (32 * (A * den) ≤ 32 * parts * (height * w) + den * w + 32 * ((1 + i) * den))
+  here i = let near = line-number (slope height den) first step i in line-close height den (s .over .0) _ _ (1 + i) (near .0) (near .1)
+
   pub line-value : n < 65536 → (i : ℕ) → i < n → wholeAt (risen (slope height den) first) (risen (slope height den) step) 0 i ≡ lineAt height den first step i
   line-value few i k =
       let m = slope height den in
       let w = first + step * i in
-      let A = risen m first + risen m step * i in
-      let near = line-number m first step i in
-      let close = line-close height den (s .over .0) w A (1 + i) (near .0) (near .1) in
       let square : den * w ≤ 30000000 * 30000000 = NatL.mul-le-mul {m₁ = w} {m₂ = 30000000} (s .over .1) (omega (arith, on-line i k, s .over .1)) in
       let turns : (1 + i) * den ≤ 65536 * 30000000 = NatL.mul-le-mul {n₁ = 1 + i} {n₂ = 65536} (omega arith) (s .over .1) in
-      let plain : climbed (risen m first) (risen m step) 0 i ≡ A = omega arith in
-      ap (λ a. a / parts) plain
-      ∙ rounds-down (parts) den (height * w) A (s .over .0) (close .0) (omega (arith, close .1, square, turns))
+      let plain : climbed (risen m first) (risen m step) 0 i ≡ risen m first + risen m step * i = omega arith in
+      ap (λ a. a / parts) plain ∙ rounds-down parts den (height * w) _ (s .over .0) (here i .0) (omega (arith, here i .1, square, turns))
 
   pub line-room : n < 65536 → Room (risen (slope height den) first) (risen (slope height den) step) 0 n
   line-room few =
-      let m = slope height den in
       let w = first + step * n in
-      let A = risen m first + risen m step * n in
-      let near = line-number m first step n in
-      let close = line-close height den (s .over .0) w A (1 + n) (near .0) (near .1) in
       let after : n ≤ n - 1 + 1 = omega arith in
       let far : w ≤ 51 * den = omega (arith, s .last, s .by, NatL.mul-le-mul-left step after) in
       let high : height ≤ 9999 = omega (arith, s .low) in
@@ -88,7 +86,8 @@ module _ {height den first step n : ℕ} (s : Straight height den first step n) 
       let square : den * w ≤ den * (51 * den) = NatL.mul-le-mul-left den far in
       let short : den * (51 * den) ≤ 30000000 * (51 * den) = NatL.mul-le-mul-right (51 * den) (s .over .1) in
       let turns : (1 + n) * den ≤ 65536 * den = NatL.mul-le-mul-right {m = 1 + n} {n = 65536} den (omega arith) in
-      let fits : A < 2 ^ 64 = NatL.lt-of-mul-lt-mul-right den (omega (arith, close .1, top, square, short, turns, s .over .0)) in
+      let fits : risen (slope height den) first + risen (slope height den) step * n < 2 ^ 64 =
+      NatL.lt-of-mul-lt-mul-right den (omega (arith, here n .1, top, square, short, turns, s .over .0)) in
       record { number = omega (arith, fits); by = omega (arith, risen-fits step (s .by)) }
 
   pub line-most : (i : ℕ) → i < n → lineAt height den first step i ≤ 10000

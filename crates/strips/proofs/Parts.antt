@@ -6,8 +6,8 @@ use native.Mathlib.Omega.{arith}
 use Rattle.strips.specs.Code.{parts}
 
 -- m n / p, by the quotient and the rest of m
-pub shared : (m n p : ℕ) → 0 < p → m / p * n + m % p * n / p ≡ m * n / p
-shared m n p some =
+pub share-is : (m n p : ℕ) → 0 < p → m / p * n + m % p * n / p ≡ m * n / p
+share-is m n p some =
     let whole : m / p * n * p + m % p * n ≡ m * n = omega (arith, ap (λ k. k * n) (NatL.div-add-mod m p)) in
     sym (NatL.mul-add-div-right some (m / p * n) (m % p * n)) ∙ ap (λ k. k / p) whole
 

@@ -21,7 +21,7 @@ in-order {m = m} {n = n} h c d =
     ⊎-elim (λ z. omega arith) (λ z. absurd (omega (arith, c .inside n (d .between .0) (omega arith), d .outside n (omega arith) (omega arith)))) (NatL.eq-zero-or-pos (m - n))
 
 between :
-    {a : Axis} {ea sa eb sb from to m n : ℕ} → AxisSteady a → (ea + 30 ≤ eb) × (eb < 65536) × (eb * half a ≤ 30000000) → (sa < 10000) × (sb < 10000)
+    {a : Axis} {ea sa eb sb from to m n : ℕ} → AxisSteady a → (ea + 30 ≤ eb) × (eb * half a ≤ 30000000) → (sa < 10000) × (sb < 10000)
     → Cut (ea * half a) (250 * a .unit) from to m → Cut (eb * half a) (250 * a .unit) from to n → OnRamp a ea sa eb sb m n
 between s ends stresses c d =
     record { axis = s; ends = ends; stresses = stresses; on = λ j p q. (c .outside j p (omega arith), d .inside j (omega arith) q) }
@@ -44,13 +44,13 @@ module _ {l : Law} {a : Axis} {from to end1 end2 end3 : ℕ} (c : Cuts l a from 
   none = record { between = (omega arith, NatL.le-trans (c .one .between .0) (c .one .between .1)); inside = λ j p q. absurd (omega arith); outside = λ j p q. omega (arith, c .steady, NatL.zero-mul (half a)) }
 
   pub first-ramp : OnRamp a 0 0 (l .e1) (l .s1) from end1
-  first-ramp = let s = c .steady in between (s .axis) (omega arith, omega arith, omega (arith, limits s)) (omega arith, omega arith) none (c .one)
+  first-ramp = let s = c .steady in between (s .axis) (omega arith, omega (arith, limits s)) (omega arith, omega arith) none (c .one)
 
   pub second-ramp : OnRamp a (l .e1) (l .s1) (l .e2) (l .s2) end1 end2
-  second-ramp = let s = c .steady in between (s .axis) (omega arith, omega arith, omega (arith, limits s)) (omega arith, omega arith) (c .one) (c .two)
+  second-ramp = let s = c .steady in between (s .axis) (omega arith, omega (arith, limits s)) (omega arith, omega arith) (c .one) (c .two)
 
   pub third-ramp : OnRamp a (l .e2) (l .s2) (l .e3) (l .s3) end2 end3
-  third-ramp = let s = c .steady in between (s .axis) (s .e3) (omega arith, omega arith) (c .two) (c .three)
+  third-ramp = let s = c .steady in between (s .axis) (s .e3 .0, s .e3 .2) (omega arith, omega arith) (c .two) (c .three)
 
   pub joined :
       sumN (end1 - from) (after from (rampAt a 0 0 (l .e1) (l .s1))) + sumN (end2 - end1) (after end1 (rampAt a (l .e1) (l .s1) (l .e2) (l .s2)))

@@ -26,17 +26,17 @@ module _ {l : Law} {a : Axis} (s : Steady l a) where
   bears : (i n : ℕ) → n ≡ size (compressed l (500 * (a .unit * reach false (a .x) i)) (a .over)) → n ≡ stripSize l false a i
   bears i n e = sized l _ n (steady-small s) (e ∙ ap (λ p. size (compressed l p (a .over))) (sym (NatL.mul-assoc 500 (a .unit) (reach false (a .x) i))))
 
-  pub level-size : (i : ℕ) → 4 * a .over < a .unit * reach false (a .x) i → stripSize l false a i ≡ l .fcd
+  level-size : (i : ℕ) → 4 * a .over < a .unit * reach false (a .x) i → stripSize l false a i ≡ l .fcd
   level-size i h = sym (bears i (l .fcd) (compressed-level l (a .unit * reach false (a .x) i) (a .over) h))
 
-  pub bent-size : (i w : ℕ) → a .unit * reach false (a .x) i + w ≡ 4 * a .over
+  bent-size : (i w : ℕ) → a .unit * reach false (a .x) i + w ≡ 4 * a .over
       → l .fcd * (64 * (half a * half a) - w * w) / (64 * (half a * half a)) ≡ stripSize l false a i
   bent-size i w e =
       let t = a .unit * reach false (a .x) i in
       let even = s .axis .even in
       let place : t + w ≡ 8 * half a = omega (arith, e, even) in
       let rises : l .fcd * (t * (8 * a .over - t)) / (16 * a .over * a .over) ≡ size (compressed l (500 * t) (a .over)) =
-      compressed-rises l t (a .over) (omega (arith, even, s .axis .over .0)) (omega (arith, e)) in
+      compressed-rises l t (a .over) (omega (arith, even, s .axis .by)) (omega (arith, e)) in
       bears i _ (from-top (l .fcd) (half a) t w place ∙ ap (λ q. l .fcd * (t * (8 * q - t)) / (16 * q * q)) (sym even) ∙ rises)
 
 -- as far apart from the top as from the axis

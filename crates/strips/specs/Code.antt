@@ -1,10 +1,8 @@
--- Sums over strips that go without a division a strip. Along one piece of the law the numerator of a stress is linear or quadratic in the number of
--- the strip and its denominator stays, so that the fraction, held in parts of 2⁴⁵, is stepped by additions. Here is what is summed, and the sizes of
--- law and axis within which the whole part stays the rounded stress.
+-- What the private functions answer and need. Along one piece of the law the numerator of a stress is linear or quadratic in the number of the strip
+-- and its denominator stays, so that the fraction is stepped by additions, as a number of parts, 2⁴⁵ to the whole. Here is what is summed, and the
+-- sizes of law and axis within which the whole part is the rounded stress.
 use Prim.Native.Nat.{ℕ, zero, suc, _+_, _*_, _-_, _/_, _^_, _≤_, _<_}
 use mathlib.Core.Path.{_≡_}
-use mathlib.Core.Bool.{Bool, _&&_}
-use lib.Dec.{eqb, ltb, leb}
 use Rattle.law.specs.declared.Law.{Law}
 use Rattle.law.specs.Stress.{size, ramp, stretched}
 use Rattle.strips.specs.declared.Axis.{Axis}
@@ -37,8 +35,8 @@ bentAt fcd half unit first i = fcd * (64 * (half * half) - (first + 2 * unit * i
 
 pub record Bent (fcd half unit first n : ℕ) : Type 0 where
   pub weak : fcd < 32768
-  pub over : (0 < half) × (half ≤ 1000)
-  pub by : (5 ≤ unit) × (unit ≤ 3 * half)
+  pub over : half ≤ 1000
+  pub by : (7 ≤ unit) × (unit ≤ 3 * half)
   pub last : first + 2 * unit * (n - 1) ≤ 8 * half
 
 -- ---- a line from its lower end: w beyond that end, which is `first` at the first strip and rises by a step
@@ -68,11 +66,13 @@ pulledAt l a j = size (stretched l (500 * a .unit * middle j) (a .over))
 abbrev pub half : Axis → ℕ
 half a = a .over / 2
 
+-- with a unit of 7 or more, which is the least there is, a parabola has at most 572 strips; up to 3 half, a step beyond it still fits
 pub record AxisSteady (a : Axis) : Type 0 where
   pub even : a .over ≡ 2 * half a
-  pub over : (0 < half a) × (half a ≤ 1000)
-  pub by : (5 ≤ a .unit) × (a .unit ≤ 3 * half a)
+  pub over : half a ≤ 1000
+  pub by : (7 ≤ a .unit) × (a .unit ≤ 3 * half a)
 
+-- lines of 30 or more are at least a fiftieth of a step long, so that a step beyond them fits; e3 half is the most that a line's denominator is
 pub record Steady (l : Law) (a : Axis) : Type 0 where
   pub axis : AxisSteady a
   pub fcd : l .fcd < 32768
@@ -83,26 +83,9 @@ pub record Steady (l : Law) (a : Axis) : Type 0 where
   pub e2 : l .e1 + 30 ≤ l .e2
   pub e3 : (l .e2 + 30 ≤ l .e3) × (l .e3 < 65536) × (l .e3 * half a ≤ 30000000)
 
--- and as a test
-abbrev pub steady : Law → Axis → Bool
-steady l a =
-    eqb (2 * half a) (a .over)
-    && leb (half a) 1000
-    && leb 5 (a .unit)
-    && leb (a .unit) (3 * half a)
-    && ltb (l .fcd) 32768
-    && ltb (l .s1) 10000
-    && ltb (l .s2) 10000
-    && ltb (l .s3) 10000
-    && leb 30 (l .e1)
-    && leb (l .e1 + 30) (l .e2)
-    && leb (l .e2 + 30) (l .e3)
-    && ltb (l .e3) 65536
-    && leb (l .e3 * half a) 30000000
-
 -- a ramp of such a size, with the strips from..to on it
 pub record OnRamp (a : Axis) (ea sa eb sb from to : ℕ) : Type 0 where
   pub axis : AxisSteady a
-  pub ends : (ea + 30 ≤ eb) × (eb < 65536) × (eb * half a ≤ 30000000)
+  pub ends : (ea + 30 ≤ eb) × (eb * half a ≤ 30000000)
   pub stresses : (sa < 10000) × (sb < 10000)
   pub on : (j : ℕ) → from ≤ j → j < to → (ea * half a < 250 * a .unit * middle j) × (250 * a .unit * middle j ≤ eb * half a)

@@ -2,12 +2,13 @@
 // 'Strains, strips and balance').
 ghost use mathlib.Core.Path.{_≡_};
 ghost use mathlib.Core.Bool.{true, false};
+ghost use mathlib.Core.Logic.{_↔_};
 ghost use Prim.Native.Nat.{ℕ, _+_, _-_, _*_, _/_, _^_, _≤_, _<_};
 ghost use lib.Dec.{leb};
 ghost use Rattle.arith.specs.Sums.{sumN, after};
 ghost use Rattle.law.specs.Stress.{signed};
 ghost use Rattle.strips.specs.Strips.{reach, stripSize, runOf};
-ghost use Rattle.strips.specs.Code.{wholeAt, Room, bentAt, Bent, lineAt, Straight, Cut, rampAt, pulledAt, half, steady, Steady, OnRamp};
+ghost use Rattle.strips.specs.Code.{wholeAt, Room, bentAt, Bent, lineAt, Straight, Cut, rampAt, pulledAt, Steady, OnRamp};
 use law::Law;
 
 // A neutral axis at depth x. The strain at a position, which is twice a depth, is 500 unit (2 x - position) / over.
@@ -58,9 +59,9 @@ fn total(law: Law, pulls: bool, axis: Axis, from: u16, to: u16) -> u64
     sum
 }
 
-// Whether law and axis are of the size that every section's are of: for these a sum is stepped, for others each strip is divided for.
+// Whether law and axis are of the size that every accepted section's are of. Only then is a sum stepped.
 fn steady(law: Law, axis: Axis) -> bool
-    ensures { λ r. ⌜ r ≡ steady law axis ⌝ }
+    ensures { λ r. ⌜ (r ≡ true) ↔ Steady law axis ⌝ }
 {
     let unit = axis.unit as u32;
     let over = axis.over as u32;
@@ -70,7 +71,7 @@ fn steady(law: Law, axis: Axis) -> bool
     let e3 = law.e3 as u64;
     (2 * half == over)
         & (half <= 1000)
-        & (5 <= unit)
+        & (7 <= unit)
         & (unit <= 3 * half)
         & (law.fcd < 32768)
         & (law.s1 < 10000)
@@ -83,7 +84,7 @@ fn steady(law: Law, axis: Axis) -> bool
         & (e3 * (half as u64) <= 30000000)
 }
 
-// Where the strips from..to, by their places from the axis, pass a limit: unit times the reach of those before it is at most that.
+// The first of the strips from..to, by their places from the axis, whose reach times unit is above a limit; or `to`.
 fn cut(limit: u32, unit: u32, from: u16, to: u16) -> u16
     requires { ⌜ (0 < unit) × (limit < 65536 * unit) × (from ≤ to) ⌝ }
     ensures { λ r. ⌜ Cut limit unit from to r ⌝ }
@@ -91,15 +92,16 @@ fn cut(limit: u32, unit: u32, from: u16, to: u16) -> u16
     most(from, least(((limit / unit + 1) / 2) as u16, to))
 }
 
-// m n over some parts, rounded down, where m n itself may not fit.
-fn share(m: u64, n: u64, parts: u64) -> u64
-    requires { ⌜ (0 < parts) × (parts * n < 2 ^ 64) × (m * n < 2 ^ 64 * parts) ⌝ }
-    ensures { λ r. ⌜ r ≡ m * n / parts ⌝ }
+// m n / by, rounded down: in two halves, since m n itself may not fit.
+fn share(m: u64, n: u64, by: u64) -> u64
+    requires { ⌜ (0 < by) × (by * n < 2 ^ 64) × (m * n < 2 ^ 64 * by) ⌝ }
+    ensures { λ r. ⌜ r ≡ m * n / by ⌝ }
 {
-    m / parts * n + m % parts * n / parts
+    m / by * n + m % by * n / by
 }
 
-// The whole parts, of parts of 2⁴⁵, of a number that climbs: an addition for it, one for its step, and a shift a strip.
+// The sum of the whole parts of a number that climbs, 2⁴⁵ = 35184372088832 parts to the whole: an addition for it, one for its step, and
+// a shift a strip.
 fn climb(first: u64, step: u64, bend: u64, count: u16) -> u64
     requires { ⌜ Room first step bend count ⌝ }
     ensures { λ r. ⌜ r ≡ sumN count (wholeAt first step bend) ⌝ }
@@ -116,7 +118,8 @@ fn climb(first: u64, step: u64, bend: u64, count: u16) -> u64
     sum
 }
 
-// Strips of the parabola, downwards from its top: what each loses is rounded up.
+// Strips of the parabola, downwards from its top: what each loses is rounded up, by all parts of a whole but one. Its three numbers are shares
+// of one quotient, 16 times as fine as they are, over 64 squares.
 fn parabola(fcd: u64, half: u64, unit: u64, first: u64, count: u16) -> u64
     requires { ⌜ Bent fcd half unit first count ⌝ }
     ensures { λ r. ⌜ (r ≡ sumN count (bentAt fcd half unit first)) × (r ≤ fcd * count) ⌝ }
@@ -131,7 +134,8 @@ fn parabola(fcd: u64, half: u64, unit: u64, first: u64, count: u16) -> u64
     fcd * (count as u64) - lost
 }
 
-// Strips of a line, upwards from its lower end. Both numbers are rounded up, so that a whole stress is not missed.
+// Strips of a line, upwards from its lower end. The slope, 32 times as fine as its two shares, and these are raised, so that a stress that is
+// whole is not missed.
 fn line(height: u64, den: u64, first: u64, step: u64, count: u16) -> u64
     requires { ⌜ Straight height den first step count ⌝ }
     ensures { λ r. ⌜ (r ≡ sumN count (lineAt height den first step)) × (r ≤ 10000 * count) ⌝ }
@@ -140,7 +144,8 @@ fn line(height: u64, den: u64, first: u64, step: u64, count: u16) -> u64
     climb(share(m, first, 32) + 1, share(m, step, 32) + 1, 0, count)
 }
 
-// A run of strips on the ramp from (ea, sa) to (eb, sb), by their places from the axis. It is walked from its lower end.
+// A run of strips on the ramp from (ea, sa) to (eb, sb), by their places from the axis: their strain is `rate` times the reach over half of
+// `over`. It is walked from its lower end, so that rising and falling are one line.
 fn ramp(axis: Axis, ea: u32, sa: u32, eb: u32, sb: u32, from: u16, to: u16) -> u64
     requires { ⌜ OnRamp axis ea sa eb sb from to ⌝ }
     ensures { λ r. ⌜ (r ≡ sumN (to - from) (after from (rampAt axis ea sa eb sb))) × (r ≤ 20000 * 65536) ⌝ }
@@ -149,15 +154,15 @@ fn ramp(axis: Axis, ea: u32, sa: u32, eb: u32, sb: u32, from: u16, to: u16) -> u
         return 0;
     }
     let half = axis.over as u64 / 2;
-    let unit = 250 * (axis.unit as u64);
+    let rate = 250 * (axis.unit as u64);
     let den = (eb - ea) as u64 * half;
     let count = to - from;
     if sa <= sb {
-        let first = unit * (2 * (from as u64) + 1) - ea as u64 * half;
-        return sa as u64 * (count as u64) + line((sb - sa) as u64, den, first, 2 * unit, count);
+        let first = rate * (2 * (from as u64) + 1) - ea as u64 * half;
+        return sa as u64 * (count as u64) + line((sb - sa) as u64, den, first, 2 * rate, count);
     }
-    let first = eb as u64 * half - unit * (2 * (to as u64) - 1);
-    sb as u64 * (count as u64) + line((sa - sb) as u64, den, first, 2 * unit, count)
+    let first = eb as u64 * half - rate * (2 * (to as u64) - 1);
+    sb as u64 * (count as u64) + line((sa - sb) as u64, den, first, 2 * rate, count)
 }
 
 // Stretched strips, by their places from the axis: three ramps, and nothing beyond e3.
@@ -166,10 +171,10 @@ fn pulled(law: Law, axis: Axis, from: u16, to: u16) -> u64
     ensures { λ r. ⌜ (r ≡ sumN (to - from) (after from (pulledAt law axis))) × (r ≤ 60000 * 65536) ⌝ }
 {
     let half = axis.over as u32 / 2;
-    let unit = 250 * (axis.unit as u32);
-    let end1 = cut(law.e1 * half, unit, from, to);
-    let end2 = cut(law.e2 * half, unit, from, to);
-    let end3 = cut(law.e3 * half, unit, from, to);
+    let rate = 250 * (axis.unit as u32);
+    let end1 = cut(law.e1 * half, rate, from, to);
+    let end2 = cut(law.e2 * half, rate, from, to);
+    let end3 = cut(law.e3 * half, rate, from, to);
     let one = ramp(axis, 0, 0, law.e1, law.s1, from, end1);
     let two = ramp(axis, law.e1, law.s1, law.e2, law.s2, end1, end2);
     one + two + ramp(axis, law.e2, law.s2, law.e3, law.s3, end2, end3)

@@ -3,7 +3,7 @@ use fordwhistle_tests::held::Held;
 use fordwhistle_tests::random::Random;
 use fordwhistle_tests::rules::{self, Amount, Axis, Law, Section};
 use fordwhistle_tests::sections;
-use std::cmp::Ordering::{self, Greater, Less};
+use std::cmp::Ordering::{self, Equal, Greater, Less};
 use std::collections::BTreeMap;
 
 /// Three of every height: a sum that goes on from strip to strip can go wrong after many of them.
@@ -46,8 +46,9 @@ fn reach(reached: &mut BTreeMap<Piece, Reached>, section: &Section, x: u16) {
         strips[law.piece(p, q)] += 1;
         whole[law.piece(p, q)] += usize::from(num % den == 0);
     }
-    for piece in 1..=4 {
+    for piece in 0..=5 {
         let end = match piece {
+            0 | 5 => Equal,
             4 => Greater,
             // Of two stresses in tension, the one of greater size is the lesser.
             line => law.corners[line].1.cmp(&law.corners[line - 1].1),
@@ -58,26 +59,29 @@ fn reach(reached: &mut BTreeMap<Piece, Reached>, section: &Section, x: u16) {
     }
 }
 
-/// The line from zero can only rise. It and the next span some 100 to 200 µ, few strips of even a high section. With the slope 3500 no
-/// strip's stress is whole on the parabola: fcd would have to be a multiple of 64.
+/// The line from zero can only rise. It spans 53 to 202 µ and the next 100, few strips of even a high section.
 #[test]
 fn the_strips_reach_each_piece_rising_and_falling_in_both_strains() {
     let mut reached = BTreeMap::new();
     for section in sections().step_by(10) {
         (1..=section.h).for_each(|x| reach(&mut reached, &section, x));
     }
-    for slope in [10_000, 3500] {
+    for (slope, bent) in [(10_000, 150), (3500, 500)] {
         for (piece, end, most, whole) in [
+            (0, Equal, 400, 1000),
             (1, Less, 700, 100),
             (1, Greater, 700, 100),
             (2, Less, 9, 100),
             (2, Greater, 9, 100),
             (3, Greater, 7, 100),
-            (4, Greater, 150, 0),
+            (4, Greater, bent, if slope == 3500 { 0 } else { 100 }),
+            (5, Equal, 100, 1000),
         ] {
             let reached = &reached[&(slope, piece, end)];
             let enough = reached.most >= most && reached.whole >= whole;
             assert!(enough, "{slope} {piece} {end:?}: {reached:?}");
         }
     }
+    // For a whole stress on that parabola fcd would have to be a multiple of 64.
+    assert_eq!(reached[&(3500, 4, Greater)].whole, 0);
 }

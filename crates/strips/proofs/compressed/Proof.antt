@@ -1,6 +1,6 @@
 -- `compressed`: the strips above the axis. Assumes nothing.
 use Prim.Native.Nat.{ℕ, _-_, _≤_}
-use mathlib.Core.Path.{_≡_, sym, ap, _∙_}
+use mathlib.Core.Path.{_≡_, ap, _∙_}
 use mathlib.Core.Bool.{false}
 use native.Mathlib.Nat as NatL
 use native.Mathlib.Omega.{arith}
@@ -15,7 +15,6 @@ use Rattle.strips.specs.declared.Axis.{Axis}
 use Rattle.strips.specs.Strips.{stripSize}
 use Rattle.strips.specs.Code.{Steady}
 use Rattle.strips.proofs.Runs.{strip-none}
-use Rattle.strips.proofs.Tests.{is-steady}
 use Rattle.strips.proofs.compressed.Statement.{statement}
 use Rattle.strips.proofs.compressed.Tie as tie
 
@@ -24,9 +23,9 @@ early : (l : Law) (a : Axis) (from end to : ℕ) → end ≡ to - (to - a .x) �
     → sumN (end - from) (after from (stripSize l false a)) ≡ sumN (to - from) (after from (stripSize l false a))
 early l a from end to e h = run-early (stripSize l false a) from end to h (omega arith) (λ i p q. strip-none l a i false (omega arith))
 
--- by their places from it
-placed : (f : ℕ → ℕ) (x from end : ℕ) → from ≤ end → end ≤ x → sumN (x - from - (x - end)) (after (x - (x - from)) f) ≡ sumN (end - from) (after from f)
-placed f x from end h k =
+-- by their places from it, from the top
+top-down : (f : ℕ → ℕ) (x from end : ℕ) → from ≤ end → end ≤ x → sumN (x - from - (x - end)) (after (x - (x - from)) f) ≡ sumN (end - from) (after from f)
+top-down f x from end h k =
     let count : x - from - (x - end) ≡ end - from = omega arith in
     let start : x - (x - from) ≡ from = omega arith in
     λ i. sumN (count i) (after (start i) f)
@@ -36,7 +35,7 @@ some : (c : tie.Else1) → let a = c .before .before .args in (a .from ≤ c .be
 some c = (omega arith, omega (arith, c .before .least .ensures))
 
 tested : (c : tie.Then2) → let a = c .before .before .before .before .args in Steady (a .law) (a .axis)
-tested c = let a = c .before .before .before .before .args in is-steady (a .law) (a .axis) .0 (sym (c .before .steady .ensures) ∙ c .if2 .taken)
+tested c = c .before .steady .ensures .0 (c .if2 .taken)
 
 returns : tie.Need-returns
 returns c =
@@ -52,7 +51,7 @@ returns-2 c =
     let h = some (c .before .before .before .before .before) in
     read-pos (c .pressed .result) (omega (arith, c .pressed .ensures .1))
     ∙ ap pos
-    (c .pressed .ensures .0 ∙ placed (stripSize (a .law) false (a .axis)) (a .axis .x) (a .from) (end .result) (h .0) (h .1)
+    (c .pressed .ensures .0 ∙ top-down (stripSize (a .law) false (a .axis)) (a .axis .x) (a .from) (end .result) (h .0) (h .1)
     ∙ early (a .law) (a .axis) (a .from) (end .result) (a .to) (end .ensures) (h .0))
 
 returns-3 : tie.Need-returns-3

@@ -1,7 +1,6 @@
 -- `parabola`: what the strips lose and what they bear is fcd each (Bends). Assumes nothing.
 use Prim.Native.Nat.{_+_, _*_, _-_}
 use mathlib.Core.Path.{_≡_, ap, _∙_}
-use native.Mathlib.Nat as NatL
 use native.Mathlib.Omega.{arith}
 use borrow.Author.Needs.{needs}
 use Rattle.arith.specs.Sums.{sumN}

@@ -25,11 +25,6 @@ bent-most c =
 some : (c : tie.Else1) → c .before .before .before .before .before .args .from < c .before .before .cut .result
 some c = omega (arith, c .before .before .cut .ensures .between .0)
 
-returns : tie.Need-returns
-returns c =
-    let p = c .before .before .before .before .before .pre in
-    (level-run (p .0) (p .2) (c .before .before .cut .ensures) (c .if1 .taken), omega (arith, level-most (c .before .before)))
-
 returns-2 : tie.Need-returns-2
 returns-2 c =
     let a = c .before .before .before .before .before .before .before .before .args in
@@ -37,6 +32,11 @@ returns-2 c =
       ap (λ n. a .law .fcd * (a .to - c .before .before .before .before .before .cut .result) + n) (c .parabola .ensures .0) ∙ pressed-run (p .0) (p .2) (c .before .before .before .before .before .cut .ensures) (some (c .before .before .before)),
       omega (arith, level-most (c .before .before .before .before .before), bent-most c),
     )
+
+returns : tie.Need-returns
+returns c =
+    let p = c .before .before .before .before .before .pre in
+    (level-run (p .0) (p .2) (c .before .before .cut .ensures) (c .if1 .taken), omega (arith, level-most (c .before .before)))
 
 pub pressed-spec : {M : Type 1} → statement M
 pressed-spec =

@@ -1,8 +1,7 @@
 -- `stretched`: the strips below the axis, below zero. Assumes nothing.
 use Prim.Native.Nat.{ℕ, _+_, _-_, _<_}
-use mathlib.Core.Path.{_≡_, sym, ap, _∙_}
+use mathlib.Core.Path.{_≡_, ap, _∙_}
 use mathlib.Core.Bool.{true}
-use native.Mathlib.Nat as NatL
 use native.Mathlib.Omega.{arith}
 use lib.Dec.{ltb}
 use lib.IntN.{pos, negℤ}
@@ -17,7 +16,7 @@ use Rattle.strips.specs.declared.Axis.{Axis}
 use Rattle.strips.specs.Strips.{stripSize}
 use Rattle.strips.specs.Code.{Steady}
 use Rattle.strips.proofs.Runs.{strip-none}
-use Rattle.strips.proofs.Tests.{is-steady, steady-small}
+use Rattle.strips.proofs.Tests.{steady-small}
 use Rattle.strips.proofs.Pieces.{placed}
 use Rattle.strips.proofs.stretched.Statement.{statement}
 use Rattle.strips.proofs.stretched.Tie as tie
@@ -32,7 +31,7 @@ tested : (c : tie.Then1) → let a = c .before .before .before .args in (c .befo
 tested c =
     let a = c .before .before .before .args in
     let t = both (ltb (c .before .before .most .result) (a .to)) (c .before .steady .result) (c .if1 .taken) in
-    (ltb-true _ _ (t .0), is-steady (a .law) (a .axis) .0 (sym (c .before .steady .ensures) ∙ t .1))
+    (ltb-true _ _ (t .0), c .before .steady .ensures .0 (t .1))
 
 returns : tie.Need-returns
 returns c =

@@ -1,5 +1,5 @@
 //! Stress at a strain, exactly, of concrete and of bars: a numerator and a denominator, which is above 0. Compression is positive. 64 bits
-//! hold every product and take half the time of 128; one that they don't hold would panic.
+//! hold every product and are faster than 128; one that they don't hold would panic.
 use super::section::Section;
 
 /// A column of document 01's table: fck and the modulus E in N/mm², the mean flexural strength in kPa.
