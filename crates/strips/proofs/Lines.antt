@@ -3,7 +3,7 @@ use Prim.Native.Nat.{ℕ, _+_, _*_, _-_, _/_, _^_, _≤_, _<_}
 use mathlib.Core.Path.{_≡_, ap, _∙_}
 use native.Mathlib.Nat as NatL
 use native.Mathlib.Omega.{arith}
-use Rattle.strips.specs.Code.{parts, climbed, wholeAt, Room, lineAt, Straight}
+use Rattle.strips.specs.Code.{parts, climbed, wholeAt, Room, Straight}
 use Rattle.strips.proofs.Parts.{rounds-down}
 
 -- height / den, in parts 32 times as fine
@@ -67,7 +67,7 @@ module _ {height den first step n : ℕ} (s : Straight height den first step n) 
       (parts * (height * w) ≤ A * den) × (32 * (A * den) ≤ 32 * parts * (height * w) + den * w + 32 * ((1 + i) * den))
   here i = let near = line-number (slope height den) first step i in line-close height den (s .over .0) _ _ (1 + i) (near .0) (near .1)
 
-  pub line-value : n < 65536 → (i : ℕ) → i < n → wholeAt (risen (slope height den) first) (risen (slope height den) step) 0 i ≡ lineAt height den first step i
+  pub line-value : n < 65536 → (i : ℕ) → i < n → wholeAt (risen (slope height den) first) (risen (slope height den) step) 0 i ≡ height * (first + step * i) / den
   line-value few i k =
       let m = slope height den in
       let w = first + step * i in
@@ -90,7 +90,7 @@ module _ {height den first step n : ℕ} (s : Straight height den first step n) 
       NatL.lt-of-mul-lt-mul-right den (omega (arith, here n .1, top, square, short, turns, s .over .0)) in
       record { number = omega (arith, fits); by = omega (arith, risen-fits step (s .by)) }
 
-  pub line-most : (i : ℕ) → i < n → lineAt height den first step i ≤ 10000
+  pub line-most : (i : ℕ) → i < n → height * (first + step * i) / den ≤ 10000
   line-most i k =
       let high : height ≤ 10000 = omega (arith, s .low) in
       NatL.div-le-of-le-mul den (omega (arith, NatL.mul-le-mul high (on-line i k)))

@@ -13,7 +13,7 @@ use Rattle.law.specs.Sizes.{small}
 use Rattle.law.proofs.Sizes.{sized, stretched-first, stretched-second, stretched-third, stretched-beyond}
 use Rattle.strips.specs.declared.Axis.{Axis}
 use Rattle.strips.specs.Strips.{middle, reach, stripSize}
-use Rattle.strips.specs.Code.{Cut, rampAt, pulledAt, half, AxisSteady, Steady, OnRamp}
+use Rattle.strips.specs.Code.{Cut, rampAt, pulledAt, rate, half, AxisSteady, Steady, OnRamp}
 
 -- ---- a run that is cut twice
 in-order : {k l unit from to m n : ℕ} → k ≤ l → Cut k unit from to m → Cut l unit from to n → m ≤ n
@@ -22,7 +22,7 @@ in-order {m = m} {n = n} h c d =
 
 between :
     {a : Axis} {ea sa eb sb from to m n : ℕ} → AxisSteady a → (ea + 30 ≤ eb) × (eb * half a ≤ 30000000) → (sa < 10000) × (sb < 10000)
-    → Cut (ea * half a) (250 * a .unit) from to m → Cut (eb * half a) (250 * a .unit) from to n → OnRamp a ea sa eb sb m n
+    → Cut (ea * half a) (rate a) from to m → Cut (eb * half a) (rate a) from to n → OnRamp a ea sa eb sb m n
 between s ends stresses c d =
     record { axis = s; ends = ends; stresses = stresses; on = λ j p q. (c .outside j p (omega arith), d .inside j (omega arith) q) }
 
@@ -32,16 +32,20 @@ limits {l} {a} s = (NatL.mul-le-mul-right (half a) (omega arith), NatL.mul-le-mu
 
 pub record Cuts (l : Law) (a : Axis) (from to end1 end2 end3 : ℕ) : Type 0 where
   pub steady : Steady l a
-  pub one : Cut (l .e1 * half a) (250 * a .unit) from to end1
-  pub two : Cut (l .e2 * half a) (250 * a .unit) from to end2
-  pub three : Cut (l .e3 * half a) (250 * a .unit) from to end3
+  pub one : Cut (l .e1 * half a) (rate a) from to end1
+  pub two : Cut (l .e2 * half a) (rate a) from to end2
+  pub three : Cut (l .e3 * half a) (rate a) from to end3
 
 module _ {l : Law} {a : Axis} {from to end1 end2 end3 : ℕ} (c : Cuts l a from to end1 end2 end3) where
   rise : (end1 ≤ end2) × (end2 ≤ end3)
   rise = (in-order (limits (c .steady) .0) (c .one) (c .two), in-order (limits (c .steady) .1) (c .two) (c .three))
 
-  none : Cut (0 * half a) (250 * a .unit) from to from
-  none = record { between = (omega arith, NatL.le-trans (c .one .between .0) (c .one .between .1)); inside = λ j p q. absurd (omega arith); outside = λ j p q. omega (arith, c .steady, NatL.zero-mul (half a)) }
+  none : Cut (0 * half a) (rate a) from to from
+  none = record {
+    between = (omega arith, NatL.le-trans (c .one .between .0) (c .one .between .1));
+    inside = λ j p q. absurd (omega arith);
+    outside = λ j p q. omega (arith, c .steady, NatL.zero-mul (half a));
+  }
 
   pub first-ramp : OnRamp a 0 0 (l .e1) (l .s1) from end1
   first-ramp = let s = c .steady in between (s .axis) (omega arith, omega (arith, limits s)) (omega arith, omega arith) none (c .one)

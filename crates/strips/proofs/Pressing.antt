@@ -12,7 +12,7 @@ use Rattle.law.proofs.Sizes.{sized, compressed-level, compressed-rises}
 use Rattle.strips.specs.declared.Axis.{Axis}
 use Rattle.strips.specs.Strips.{middle, reach, stripSize}
 use Rattle.strips.specs.Code.{bentAt, Bent, Cut, half, Steady}
-use Rattle.strips.proofs.Tests.{steady-small}
+use Rattle.strips.proofs.Runs.{steady-small}
 
 -- the parabola from its top
 from-top : (fcd half t w : ℕ) → t + w ≡ 8 * half → fcd * (64 * (half * half) - w * w) / (64 * (half * half)) ≡ fcd * (t * (8 * (2 * half) - t)) / (16 * (2 * half) * (2 * half))
@@ -75,7 +75,8 @@ module _ {l : Law} {a : Axis} {from to at : ℕ} (s : Steady l a) (k : to ≤ a 
       let first = apart (a .x) at to (c .between .1) k in
       let rest = apart (a .x) from at (c .between .0) (NatL.le-trans (c .between .1) k) in
       let all = apart (a .x) from to (NatL.le-trans (c .between .0) (c .between .1)) k in
-      ap (λ n. l .fcd * (to - at) + n) on ∙ (rw (first, rest, all) at (run-level f (l .fcd) (a .x - to) (a .x - at) (a .x - from) (NatL.sub-le-sub-left (c .between .1) (a .x)) (NatL.sub-le-sub-left (c .between .0) (a .x)) past))
+      let level = run-level f (l .fcd) (a .x - to) (a .x - at) (a .x - from) (NatL.sub-le-sub-left (c .between .1) (a .x)) (NatL.sub-le-sub-left (c .between .0) (a .x)) past in
+      ap (λ n. l .fcd * (to - at) + n) on ∙ (rw (first, rest, all) at level)
 
   pub level-run : at ≡ from → l .fcd * (to - at) ≡ sumN (to - from) (after (a .x - to) (stripSize l false a))
   level-run e = ap (λ n. l .fcd * (to - n)) e ∙ sym (run-flat _ (l .fcd) (a .x - to) (to - from) (λ i p q. past i p (omega (arith, c .between .1))))

@@ -1,19 +1,19 @@
 -- A run of strips on a ramp, by the line from its lower end: rising from the first strip on, falling from the last one back. Assumes nothing.
 use Prim.Native.Nat.{ℕ, _+_, _*_, _-_, _/_, _≤_, _<_}
-use mathlib.Core.Path.{_≡_, refl, sym, ap, _∙_}
+use mathlib.Core.Path.{_≡_, sym, ap, _∙_}
 use native.Mathlib.Nat as NatL
 use native.Mathlib.Omega.{arith}
 use Rattle.arith.specs.Sums.{sumN, after}
-use Rattle.arith.proofs.Sums.{sum-raised, sum-back}
+use Rattle.arith.proofs.Sums.{sum-same, sum-back}
 use Rattle.law.specs.Stress.{size}
 use Rattle.strips.specs.declared.Axis.{Axis}
 use Rattle.strips.specs.Strips.{middle}
-use Rattle.strips.specs.Code.{lineAt, Straight, rampAt, half, AxisSteady, OnRamp}
+use Rattle.strips.specs.Code.{lineAt, Straight, rampAt, rate, half, AxisSteady, OnRamp}
 
 -- ---- a strip on a ramp: w above the near end, v below the far one
 -- half of its strain's numerator
 abbrev pub strain : Axis → ℕ → ℕ
-strain x j = 250 * x .unit * middle j
+strain x j = rate x * middle j
 
 weighed : (a b v w d : ℕ) → v + w ≡ d → 0 < d → a ≤ b → (a * v + b * w) / d ≡ a + (b - a) * w / d
 weighed a b v w d e some up =
@@ -35,27 +35,25 @@ halved x ea sa eb sb j v w even high low =
 
 -- ---- a run of strips on a ramp
 straight :
-    {x : Axis} {height den first n : ℕ} → AxisSteady x → 30 * half x ≤ den → den ≤ 30000000 → height < 10000 → first + 2 * (250 * x .unit) * (n - 1) ≤ den
-    → Straight height den first (2 * (250 * x .unit)) n
+    {x : Axis} {height den first n : ℕ} → AxisSteady x → 30 * half x ≤ den → den ≤ 30000000 → height < 10000 → first + 2 * rate x * (n - 1) ≤ den
+    → Straight height den first (2 * rate x) n
 straight s steep short low last = record { low = low; over = (omega arith, short); by = omega arith; last = last }
 
--- how long the ramp is, where the run starts and ends, how much of its stress is level, and its line, from either end
+-- how long the ramp is, where the run starts and ends, and its line, from either end
 pub record Sizes (x : Axis) (ea sa eb sb from to : ℕ) : Type 0 where
   pub long : (eb - ea) * half x + ea * half x ≡ eb * half x
   pub some : 0 < (eb - ea) * half x
   pub first : (ea * half x < strain x from) × (strain x from ≤ eb * half x)
-  pub last : 250 * x .unit * (2 * to - 1) ≤ eb * half x
-  pub near : sa * (to - from) ≤ 10000 * (to - from)
-  pub far : sb * (to - from) ≤ 10000 * (to - from)
-  pub up : Straight (sb - sa) ((eb - ea) * half x) (strain x from - ea * half x) (2 * (250 * x .unit)) (to - from)
-  pub down : Straight (sa - sb) ((eb - ea) * half x) (eb * half x - 250 * x .unit * (2 * to - 1)) (2 * (250 * x .unit)) (to - from)
+  pub last : rate x * (2 * to - 1) ≤ eb * half x
+  pub up : Straight (sb - sa) ((eb - ea) * half x) (strain x from - ea * half x) (2 * rate x) (to - from)
+  pub down : Straight (sa - sb) ((eb - ea) * half x) (eb * half x - rate x * (2 * to - 1)) (2 * rate x) (to - from)
 
 module _ {x : Axis} {ea sa eb sb from to : ℕ} (o : OnRamp x ea sa eb sb from to) (some : from < to) where
   pub sizes : Sizes x ea sa eb sb from to
   sizes =
       let first = o .on from (omega arith) some in
       let last = o .on (from + (to - from - 1)) (omega arith) (omega arith) in
-      let across : 250 * x .unit * (2 * to - 1) ≡ 250 * x .unit * (middle from + 2 * (to - from - 1)) = ap (λ n. 250 * x .unit * n) (omega arith) in
+      let across : rate x * (2 * to - 1) ≡ rate x * (middle from + 2 * (to - from - 1)) = ap (λ n. rate x * n) (omega arith) in
       let long : (eb - ea) * half x + ea * half x ≡ eb * half x = sym (NatL.add-mul (eb - ea) ea (half x)) ∙ ap (λ n. n * half x) (omega arith) in
       let steep : 30 * half x ≤ (eb - ea) * half x = NatL.mul-le-mul-right (half x) (omega arith) in
       record {
@@ -63,8 +61,6 @@ module _ {x : Axis} {ea sa eb sb from to : ℕ} (o : OnRamp x ea sa eb sb from t
         some = omega arith;
         first = first;
         last = omega arith;
-        near = NatL.mul-le-mul-right (to - from) (omega arith);
-        far = NatL.mul-le-mul-right (to - from) (omega arith);
         up = straight (o .axis) steep (omega arith) (omega arith) (omega arith);
         down = straight (o .axis) steep (omega arith) (omega arith) (omega arith);
       }
@@ -80,22 +76,19 @@ module _ {x : Axis} {ea sa eb sb from to : ℕ} (o : OnRamp x ea sa eb sb from t
       )
 
   pub rising : sa ≤ sb
-      → sa * (to - from) + sumN (to - from) (lineAt (sb - sa) ((eb - ea) * half x) (strain x from - ea * half x) (2 * (250 * x .unit)))
-      ≡ sumN (to - from) (after from (rampAt x ea sa eb sb))
+      → sumN (to - from) (lineAt sa (sb - sa) ((eb - ea) * half x) (strain x from - ea * half x) (2 * rate x)) ≡ sumN (to - from) (after from (rampAt x ea sa eb sb))
   rising up =
-      sum-raised (to - from) sa _ _
+      sum-same _ _ (to - from)
       (λ i k.
       let h = o .on (from + i) (omega arith) (omega arith) in
-      lies (from + i) (eb * half x - strain x (from + i)) (strain x from - ea * half x + 2 * (250 * x .unit) * i) (omega arith) (omega (arith, sizes)) .0 up)
+      sym (lies (from + i) (eb * half x - strain x (from + i)) (strain x from - ea * half x + 2 * rate x * i) (omega arith) (omega (arith, sizes)) .0 up))
 
   pub falling : sb ≤ sa
-      → sb * (to - from) + sumN (to - from) (lineAt (sa - sb) ((eb - ea) * half x) (eb * half x - 250 * x .unit * (2 * to - 1)) (2 * (250 * x .unit)))
-      ≡ sumN (to - from) (after from (rampAt x ea sa eb sb))
+      → sumN (to - from) (lineAt sb (sa - sb) ((eb - ea) * half x) (eb * half x - rate x * (2 * to - 1)) (2 * rate x)) ≡ sumN (to - from) (after from (rampAt x ea sa eb sb))
   falling down =
-      sum-raised (to - from) sb _ _
+      sum-back (to - from) (after from (rampAt x ea sa eb sb)) _
       (λ i k.
       let j = from + (to - from - 1 - i) in
       let h = o .on j (omega arith) (omega arith) in
-      let back : 250 * x .unit * (2 * to - 1) ≡ 250 * x .unit * (middle j + 2 * i) = ap (λ n. 250 * x .unit * n) (omega arith) in
-      lies j (eb * half x - 250 * x .unit * (2 * to - 1) + 2 * (250 * x .unit) * i) (strain x j - ea * half x) (omega (arith, sizes)) (omega arith) .1 down)
-      ∙ sum-back (to - from) (after from (rampAt x ea sa eb sb)) _ (λ i k. refl)
+      let back : rate x * (2 * to - 1) ≡ rate x * (middle j + 2 * i) = ap (λ n. rate x * n) (omega arith) in
+      lies j (eb * half x - rate x * (2 * to - 1) + 2 * rate x * i) (strain x j - ea * half x) (omega (arith, sizes)) (omega arith) .1 down)

@@ -3,6 +3,7 @@ use Prim.Native.Nat.{ℕ, zero, _+_, _*_, _-_, _≤_}
 use mathlib.Core.Path.{_≡_, refl}
 use mathlib.Core.Bool.{Bool, true, false, cond}
 use native.Mathlib.Nat as NatL
+use native.Mathlib.Omega.{arith}
 use lib.Dec.{leb}
 use lib.IntN.{natAbs}
 use Rattle.arith.specs.Sums.{sumN, after}
@@ -10,16 +11,23 @@ use Rattle.arith.proofs.Sums.{sum-most}
 use Rattle.law.specs.declared.Law.{Law}
 use Rattle.law.specs.Stress.{signed, size, rounded, concrete}
 use Rattle.law.specs.Sizes.{small, sizeIn}
-use Rattle.law.proofs.Sizes.{concrete-none}
+use Rattle.law.proofs.Sizes.{concrete-none, small-is}
 use Rattle.law.proofs.Sides.{abs-signed, concrete-rounded}
 use Rattle.law.proofs.Bounds.{size-in-most}
 use Rattle.strips.specs.declared.Axis.{Axis}
+use Rattle.strips.specs.Code.{Steady}
 use Rattle.strips.specs.Strips.{reach, strip, scaleOf, stripSize, runOf}
 
 -- a strip of a small law, from its size
 pub strip-rounded : (l : Law) (a : Axis) (i : ℕ) (pulls : Bool) → small l ≡ true → leb (a .x) i ≡ pulls → signed pulls (stripSize l pulls a i) ≡ rounded (strip l (scaleOf a) (a .x) i)
 unfolding strip sizeIn
 strip-rounded l a i pulls e s = rw (e, s) (concrete-rounded l pulls _ _)
+
+-- a law of steady size is small
+pub steady-small : {l : Law} {a : Axis} → Steady l a → small l ≡ true
+steady-small {l} s =
+    small-is l
+    record { fcd = omega arith; s1 = omega arith; s2 = omega arith; s3 = omega arith; e1 = omega arith; e2 = omega arith; e3 = omega arith }
 
 -- on the other side it has no strain, and so no stress
 pub strip-none : (l : Law) (a : Axis) (i : ℕ) (pulls : Bool) → reach pulls (a .x) i ≡ 0 → stripSize l pulls a i ≡ 0

@@ -40,8 +40,8 @@ pub record Bent (fcd half unit first n : ℕ) : Type 0 where
   pub last : first + 2 * unit * (n - 1) ≤ 8 * half
 
 -- ---- a line from its lower end: w beyond that end, which is `first` at the first strip and rises by a step
-abbrev pub lineAt : ℕ → ℕ → ℕ → ℕ → ℕ → ℕ
-lineAt height den first step i = height * (first + step * i) / den
+abbrev pub lineAt : ℕ → ℕ → ℕ → ℕ → ℕ → ℕ → ℕ
+lineAt low height den first step i = low + height * (first + step * i) / den
 
 pub record Straight (height den first step n : ℕ) : Type 0 where
   pub low : height < 10000
@@ -62,7 +62,10 @@ rampAt a ea sa eb sb j = size (ramp ea sa eb sb (500 * a .unit * middle j) (a .o
 abbrev pub pulledAt : Law → Axis → ℕ → ℕ
 pulledAt l a j = size (stretched l (500 * a .unit * middle j) (a .over))
 
--- ---- the sizes of law and axis
+-- ---- the sizes of law and axis; the strain of a strip is rate reach / half
+abbrev pub rate : Axis → ℕ
+rate a = 250 * a .unit
+
 abbrev pub half : Axis → ℕ
 half a = a .over / 2
 
@@ -88,4 +91,4 @@ pub record OnRamp (a : Axis) (ea sa eb sb from to : ℕ) : Type 0 where
   pub axis : AxisSteady a
   pub ends : (ea + 30 ≤ eb) × (eb * half a ≤ 30000000)
   pub stresses : (sa < 10000) × (sb < 10000)
-  pub on : (j : ℕ) → from ≤ j → j < to → (ea * half a < 250 * a .unit * middle j) × (250 * a .unit * middle j ≤ eb * half a)
+  pub on : (j : ℕ) → from ≤ j → j < to → (ea * half a < rate a * middle j) × (rate a * middle j ≤ eb * half a)

@@ -136,12 +136,12 @@ fn parabola(fcd: u64, half: u64, unit: u64, first: u64, count: u16) -> u64
 
 // Strips of a line, upwards from its lower end. The slope, 32 times as fine as its two shares, and these are raised, so that a stress that is
 // whole is not missed.
-fn line(height: u64, den: u64, first: u64, step: u64, count: u16) -> u64
-    requires { ⌜ Straight height den first step count ⌝ }
-    ensures { λ r. ⌜ (r ≡ sumN count (lineAt height den first step)) × (r ≤ 10000 * count) ⌝ }
+fn line(low: u64, height: u64, den: u64, first: u64, step: u64, count: u16) -> u64
+    requires { ⌜ (low < 10000) × Straight height den first step count ⌝ }
+    ensures { λ r. ⌜ (r ≡ sumN count (lineAt low height den first step)) × (r ≤ 20000 * count) ⌝ }
 {
     let m = height * 1125899906842624 / den + 1;
-    climb(share(m, first, 32) + 1, share(m, step, 32) + 1, 0, count)
+    low * (count as u64) + climb(share(m, first, 32) + 1, share(m, step, 32) + 1, 0, count)
 }
 
 // A run of strips on the ramp from (ea, sa) to (eb, sb), by their places from the axis: their strain is `rate` times the reach over half of
@@ -159,10 +159,10 @@ fn ramp(axis: Axis, ea: u32, sa: u32, eb: u32, sb: u32, from: u16, to: u16) -> u
     let count = to - from;
     if sa <= sb {
         let first = rate * (2 * (from as u64) + 1) - ea as u64 * half;
-        return sa as u64 * (count as u64) + line((sb - sa) as u64, den, first, 2 * rate, count);
+        return line(sa as u64, (sb - sa) as u64, den, first, 2 * rate, count);
     }
     let first = eb as u64 * half - rate * (2 * (to as u64) - 1);
-    sb as u64 * (count as u64) + line((sa - sb) as u64, den, first, 2 * rate, count)
+    line(sb as u64, (sa - sb) as u64, den, first, 2 * rate, count)
 }
 
 // Stretched strips, by their places from the axis: three ramps, and nothing beyond e3.
@@ -183,7 +183,7 @@ fn pulled(law: Law, axis: Axis, from: u16, to: u16) -> u64
 // Compressed strips, by their places from the axis: those past the parabola's top bear fcd and are counted.
 fn pressed(law: Law, axis: Axis, from: u16, to: u16) -> u64
     requires { ⌜ (Steady law axis) × (from ≤ to) × (to ≤ axis .x) ⌝ }
-    ensures { λ r. ⌜ (r ≡ sumN (to - from) (after (axis .x - to) (stripSize law false axis))) × (r ≤ 65536 * 65536) ⌝ }
+    ensures { λ r. ⌜ (r ≡ sumN (to - from) (after (axis .x - to) (stripSize law false axis))) × (r ≤ 2 * 65536 * 65536) ⌝ }
 {
     let unit = axis.unit as u32;
     let limit = 4 * (axis.over as u32);

@@ -70,7 +70,9 @@ compressed-spec =
     (λ c κs. search needs)
     (λ c. some (c .before .before .before) .1)
     (λ c. let h = some (c .before .before .before .before) in NatL.le-trans (h .0) (h .1))
-    (λ c κs. (tested (c .before .before), NatL.sub-le-sub-left (some (c .before .before .before .before) .0) (c .before .before .before .before .before .before .args .axis .x), NatL.sub-le (c .before .before .before .before .before .before .args .axis .x) (c .before .before .before .before .before .before .args .from)))
+    (λ c κs.
+    let x = c .before .before .before .before .before .before .args .axis .x in
+    (tested (c .before .before), NatL.sub-le-sub-left (some (c .before .before .before .before) .0) x, NatL.sub-le x (c .before .before .before .before .before .before .args .from)))
     (λ c. record { sfits = omega (arith, c .pressed .ensures .1) })
     returns-2
     (λ c κs i p q. lt-leb (c .before .before .before .before .args .axis .x) i (omega (arith, some (c .before .before))))

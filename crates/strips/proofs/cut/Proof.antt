@@ -41,4 +41,5 @@ cut-spec =
     (λ c κs. search needs)
     (λ c.
     let a = c .before .before .args in
-    cut-at (a .limit) (a .unit) (a .from) (a .to) _ (c .most .result) (c .before .before .pre .0) (c .before .before .pre .2) refl (c .most .ensures ∙ ap (λ n. a .from + (n - a .from)) (c .before .least .ensures))))
+    let at = c .most .ensures ∙ ap (λ n. a .from + (n - a .from)) (c .before .least .ensures) in
+    cut-at (a .limit) (a .unit) (a .from) (a .to) _ (c .most .result) (c .before .before .pre .0) (c .before .before .pre .2) refl at))

@@ -44,6 +44,8 @@ parabola-spec =
     (λ c. record { fits = omega (arith, bend-most (c .before .before .pre), square-most (c .before .before .pre)) })
     (λ c κs. shares (c .before .before .pre) _ (bend-most (c .before .before .pre)))
     climb-requires
-    (λ c. let a = c .before .before .before .before .args in record { fits = omega (arith, narrow-product (a .fcd) (a .count) (omega (arith, c .before .before .before .before .pre .weak)) (omega arith)) })
+    (λ c.
+    let a = c .before .before .before .before .args in
+    record { fits = omega (arith, narrow-product (a .fcd) (a .count) (omega (arith, c .before .before .before .before .pre .weak)) (omega arith)) })
     (λ c. omega (arith, all c))
     (λ c. (omega (arith, all c), omega (arith, all c))))

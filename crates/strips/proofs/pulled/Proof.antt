@@ -11,7 +11,12 @@ use Rattle.strips.proofs.pulled.Tie as tie
 cuts : (c : tie.After-cut3)
     → let a = c .before .before .before .before .before .before .before .before .args in
     Cuts (a .law) (a .axis) (a .from) (a .to) (c .before .before .before .before .cut .result) (c .before .before .cut2 .result) (c .cut3 .result)
-cuts c = record { steady = c .before .before .before .before .before .before .before .before .pre .0; one = c .before .before .before .before .cut .ensures; two = c .before .before .cut2 .ensures; three = c .cut3 .ensures }
+cuts c = record {
+  steady = c .before .before .before .before .before .before .before .before .pre .0;
+  one = c .before .before .before .before .cut .ensures;
+  two = c .before .before .cut2 .ensures;
+  three = c .cut3 .ensures;
+}
 
 returns : tie.Need-returns
 returns c = (

@@ -1,6 +1,6 @@
 -- `ramp`: its lower end's stress for each strip, and the line from there. Assumes nothing.
-use Prim.Native.Nat.{_+_, _*_, _-_}
-use mathlib.Core.Path.{ap, _∙_}
+use Prim.Native.Nat.{_-_}
+use mathlib.Core.Path.{_∙_}
 use native.Mathlib.Omega.{arith}
 use borrow.Author.Needs.{needs}
 use Rattle.arith.proofs.Sums.{run-nil}
@@ -21,14 +21,12 @@ at c = sizes (c .before .pre) (c .if1 .left)
 returns-2 : tie.Need-returns-2
 returns-2 c =
     let e = c .before .before .before .before in
-    let a = e .before .args in
-    (ap (λ n. a .sa * (a .to - a .from) + n) (c .line .ensures .0) ∙ rising (e .before .pre) (e .if1 .left) (c .before .if2 .taken), omega (arith, at e, c .line .ensures .1))
+    (c .line .ensures .0 ∙ rising (e .before .pre) (e .if1 .left) (c .before .if2 .taken), omega (arith, c .line .ensures .1))
 
 returns-3 : tie.Need-returns-3
 returns-3 c =
     let e = c .before .before .before .before in
-    let a = e .before .args in
-    (ap (λ n. a .sb * (a .to - a .from) + n) (c .line2 .ensures .0) ∙ falling (e .before .pre) (e .if1 .left) (omega arith), omega (arith, at e, c .line2 .ensures .1))
+    (c .line2 .ensures .0 ∙ falling (e .before .pre) (e .if1 .left) (omega arith), omega (arith, c .line2 .ensures .1))
 
 pub ramp-spec : {M : Type 1} → statement M
 ramp-spec =
@@ -48,11 +46,8 @@ ramp-spec =
     (λ c. record { fits = omega (arith, at (c .before .before .before)) })
     (λ c. omega (arith, at (c .before .before .before)))
     (λ c. search needs)
-    (λ c. record { fits = omega (arith, at (c .before .before .before)) })
     (λ c. search needs)
-    (λ c. search needs)
-    (λ c κs. at (c .before .before .before) .up)
-    (λ c. record { fits = omega (arith, at (c .before .before .before .before), c .line .ensures .1) })
+    (λ c κs. (c .before .before .before .before .pre .stresses .0, at (c .before .before .before) .up))
     returns-2
     (λ c. search needs)
     (λ c. search needs)
@@ -60,10 +55,7 @@ ramp-spec =
     (λ c. record { fits = omega (arith, at (c .before .before .before)) })
     (λ c. omega (arith, at (c .before .before .before)))
     (λ c. search needs)
-    (λ c. record { fits = omega (arith, at (c .before .before .before)) })
     (λ c. search needs)
     (λ c. search needs)
-    (λ c. search needs)
-    (λ c κs. at (c .before .before .before) .down)
-    (λ c. record { fits = omega (arith, at (c .before .before .before .before), c .line2 .ensures .1) })
+    (λ c κs. (c .before .before .before .before .pre .stresses .1, at (c .before .before .before) .down))
     returns-3)

@@ -15,8 +15,7 @@ use Rattle.law.specs.declared.Law.{Law}
 use Rattle.strips.specs.declared.Axis.{Axis}
 use Rattle.strips.specs.Strips.{stripSize}
 use Rattle.strips.specs.Code.{Steady}
-use Rattle.strips.proofs.Runs.{strip-none}
-use Rattle.strips.proofs.Tests.{steady-small}
+use Rattle.strips.proofs.Runs.{steady-small, strip-none}
 use Rattle.strips.proofs.Pieces.{placed}
 use Rattle.strips.proofs.stretched.Statement.{statement}
 use Rattle.strips.proofs.stretched.Tie as tie
