@@ -1,15 +1,18 @@
 # The section unit: the commands a reader needs. `make` alone lists them.
-.PHONY: help test bench run lib install fmt clean
+.PHONY: help test bench run sheet lib install fmt clean
 
-# The book that `make run` reads, and where `make install` puts what it installs.
+# The book that `make run` and `make sheet` read, the record that is drawn, and where `make install` puts what it installs.
 BOOK ?= crates/booklines/stdin
+RECORD ?= 0
 PREFIX ?= /usr/local
-export BOOK PREFIX DESTDIR
+export BOOK RECORD PREFIX DESTDIR
 
 help:
 	@echo 'make test                  prove every crate, then test the library from C and from Rust, and these commands'
 	@echo 'make bench                 time the list of depths against plain C'
 	@echo 'make run [BOOK=file]       print the lines of a book, the sample book if none is named'
+	@echo 'make sheet [BOOK=file] [RECORD=number]'
+	@echo '                           draw a record in target/sheet.svg, the first if none is named'
 	@echo 'make lib                   leave the static library in target/staticlib/libpanel.a'
 	@echo 'make install [PREFIX=dir]  install the header, the library and its pkg-config file, below /usr/local if nothing is named'
 	@echo 'make fmt                   lay out the Rattle and the Rust files'
@@ -28,6 +31,20 @@ run:
 	@rt check booklines >target/booklines.log 2>&1 || { cat target/booklines.log >&2; exit 1; }
 	@tests/start target/booklines target/bin/booklines
 	@target/booklines <"$$BOOK"
+
+# A refused book or record has its sheet too. Where none can be drawn, none that was drawn before is left.
+sheet: target/panel/sheet
+	@target/panel/sheet "$$BOOK" "$$RECORD" >target/sheet.svg || \
+	{ [ $$? -eq 1 ] && echo 'refused: target/sheet.svg says why' >&2 || rm target/sheet.svg; exit 1; }
+
+target/panel/sheet: target/staticlib/libpanel.a include/fordwhistle.h $(wildcard panel/*)
+	@tests/cc -O2 $@ panel/*.c >target/panel.log 2>&1 || { cat target/panel.log >&2; exit 1; }
+
+# Its code is in src/ alone.
+target/staticlib/libpanel.a: crates.txt $(wildcard crates/*/src/*.rt)
+	@mkdir -p target
+	@echo 'proving and building the library' >&2
+	@rt staticlib panel >target/staticlib.log 2>&1 || { cat target/staticlib.log >&2; exit 1; }
 
 lib:
 	@rt staticlib panel

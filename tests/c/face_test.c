@@ -80,13 +80,13 @@ static int is_found(fw_record_answer answer, uint32_t refusal, uint32_t at, uint
 }
 
 /* Each function that takes a record refuses this one so, whatever else it is told, and writes nothing. */
-static int refuses(const uint8_t *record, size_t len, uint32_t refusal, size_t words)
+static int refuses(const uint8_t *bytes, size_t len, uint32_t refusal, size_t words)
 {
     int64_t *row = lent(row_edge, unwritten, words * sizeof *row);
-    int zeros = is_drawn(fw_draw(record, len, 0), refusal, 0.0, 0.0) && is_drawn(fw_draw(record, len, INT32_MIN), refusal, 0.0, 0.0) &&
-                is_amount(fw_imbalance(record, len, 1), refusal, 0) && is_amount(fw_imbalance(record, len, 0), refusal, 0) &&
-                is_amount(fw_moment(record, len, 1), refusal, 0) && is_amount(fw_moment(record, len, 0), refusal, 0) &&
-                is_amount(fw_shear(record, len), refusal, 0) && is_listed(fw_depths(record, len, row, words), refusal, 0);
+    int zeros = is_drawn(fw_draw(bytes, len, 0), refusal, 0.0, 0.0) && is_drawn(fw_draw(bytes, len, INT32_MIN), refusal, 0.0, 0.0) &&
+                is_amount(fw_imbalance(bytes, len, 1), refusal, 0) && is_amount(fw_imbalance(bytes, len, 0), refusal, 0) &&
+                is_amount(fw_moment(bytes, len, 1), refusal, 0) && is_amount(fw_moment(bytes, len, 0), refusal, 0) &&
+                is_amount(fw_shear(bytes, len), refusal, 0) && is_listed(fw_depths(bytes, len, row, words), refusal, 0);
     return kept(row, unwritten, words * sizeof *row) && zeros;
 }
 
@@ -98,10 +98,10 @@ static int refuses_lent(const uint8_t *bytes, size_t len, uint32_t refusal, size
 }
 
 /* Both functions that take a book refuse this one so, whichever record is asked for. */
-static int refuses_book(const uint8_t *book, size_t len, uint32_t refusal)
+static int refuses_book(const uint8_t *bytes, size_t len, uint32_t refusal)
 {
-    return is_counted(fw_book(book, len), refusal, 0) && is_found(fw_record(book, len, 0), refusal, 0, 0) &&
-           is_found(fw_record(book, len, UINT32_MAX), refusal, 0, 0);
+    return is_counted(fw_book(bytes, len), refusal, 0) && is_found(fw_record(bytes, len, 0), refusal, 0, 0) &&
+           is_found(fw_record(bytes, len, UINT32_MAX), refusal, 0, 0);
 }
 
 static int refuses_lent_book(const uint8_t *bytes, size_t len, uint32_t refusal)

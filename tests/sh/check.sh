@@ -25,6 +25,11 @@ gives() {
     [ "$?" -eq "$status" ] && cmp target/tests/printed "$file"
 }
 
+# says WORDS: whether that is what gives left.
+says() {
+    grep -qF "$1" target/tests/said
+}
+
 # Prints the verdict; what the test ends with.
 verdict() {
     printf '%s passed, %s failed\n' "$checks_passed" "$checks_failed"

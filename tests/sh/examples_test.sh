@@ -3,30 +3,10 @@
 set -u
 cd "$(dirname "$0")/../.." || exit 1
 . tests/sh/check.sh
+. tests/sh/book.sh
 depths=target/tests/depths
 book=target/tests/book
 expected=target/tests/expected
-
-# numbers BYTES NUMBER..: little-endian.
-numbers() {
-    local bytes=$1 number i byte
-    shift
-    for number; do
-        for ((i = 0; i < bytes; i++)); do
-            printf -v byte '\\x%02x' $((number >> 8 * i & 255))
-            printf '%b' "$byte"
-        done
-    done
-}
-
-# Bars near the compressed face and a load that pulls.
-pulled() {
-    numbers 2 300 300 30 500 0 0
-    numbers 4 -1000000
-    numbers 2 0 0 2 0 30 3700 160 50
-    numbers 4 0 32 1 52
-    printf 'BOOK'
-}
 
 # 2340 records of zeros. Their places are 24 apart.
 longest() {
@@ -38,10 +18,6 @@ longest() {
 
 expect() {
     printf '%s\n' "$@" >"$expected"
-}
-
-says() {
-    grep -qF "$1" target/tests/said
 }
 
 check 'builds' tests/cc "$depths" examples/depths.c

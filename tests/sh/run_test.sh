@@ -10,5 +10,5 @@ head -c 75 crates/booklines/stdin >'target/tests/cut book'
 echo 'B 1' >target/tests/expected
 check 'cut book' gives 0 target/tests/expected "${run[@]}" BOOK='target/tests/cut book'
 check 'missing book' gives 2 /dev/null "${run[@]}" BOOK=target/tests/none
-check 'missing book is told' grep -qF 'no book to read: target/tests/none' target/tests/said
+check 'missing book is told' says 'no book to read: target/tests/none'
 verdict

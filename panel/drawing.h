@@ -1,0 +1,61 @@
+/* drawing.h: the parts of the sheet, and where each stands on it. */
+#ifndef DRAWING_H
+#define DRAWING_H
+
+#include "law.h"
+#include "section.h"
+
+/* The head's lower edge and where its words stand beside its figure, the foot's upper edge, the line between left and right. */
+enum { HEAD = 60, HEAD_WORDS = 268, FOOT = 400, DIVIDE = 530 };
+
+/* Where the section is drawn, dots a mm, whether its width goes on beyond what is drawn. */
+typedef struct {
+    double left, top, width, height, scale;
+    int broken;
+} frame;
+
+frame frame_of(const section *s);
+
+/* Left: concrete and stirrups, under the lines across; the layers, over them. */
+void draw_section(const section *s, const frame *f);
+void draw_layers(const section *s, const frame *f);
+
+/* Left: each listed depth as a line across the section, with its words; or why there is none. */
+void draw_depths(const list *l, const frame *f);
+
+/* How high the sheet is: the screen, and what is listed below it where the depths are more than the screen has room for. */
+int sheet_height(const list *l);
+
+/* Above: the moment to read. */
+void draw_head(const list *l);
+
+/* Right: the law, and the stress over the height at the depth to read. */
+void draw_law(const section *s, const bends *b);
+void draw_stress(const section *s, const bends *b, const list *l);
+
+/* What is asked: a record by its number, of a book with so many, of which so many bytes were read; and a class. */
+typedef struct {
+    const char *book;
+    size_t bytes;
+    uint32_t number, count;
+    int class_asked;
+    uint16_t fr1, fr3;
+} asked;
+
+/* Below: load, shear, class, record. */
+void draw_foot(const section *s, const asked *a);
+
+/* The whole sheet of what is refused. The section is null where there is none. */
+void draw_refused(uint32_t refusal, const section *s, const asked *a);
+
+/* What a refusal means, and what to do about it. */
+typedef struct {
+    const char *meaning, *remedy;
+} refusal_words;
+
+refusal_words words_of(uint32_t refusal);
+
+/* Moves labels, each this high and given by its upper edge, from above, so far that none lies over the next and none leaves the room. */
+void spread(double *tops, const double *heights, size_t n, double from, double to);
+
+#endif

@@ -1,0 +1,42 @@
+/* section.h: what the sheet reads of a record, and what the unit answers of it. */
+#ifndef SECTION_H
+#define SECTION_H
+
+#include <stddef.h>
+#include <stdint.h>
+
+enum { MOST_LAYERS = 8, MOST_DEPTHS = 1000 };
+
+typedef struct {
+    unsigned depth, area;
+} layer;
+
+/* A record and its fields, by the header's table. */
+typedef struct {
+    const uint8_t *record;
+    size_t len;
+    unsigned b, h, fck, fyk, feq2, feq3;
+    int32_t load;
+    unsigned asw, s, m, zero;
+    layer layers[MOST_LAYERS];
+} section;
+
+typedef struct {
+    int64_t x, kind, moment;
+} depth;
+
+/* The listed depths, and which of them has the least moment: the first, where several have it. */
+typedef struct {
+    uint32_t refusal, count, least;
+    depth depths[MOST_DEPTHS];
+} list;
+
+/* The section of a record that a good book has, so that its length is 24 + 4m and m at most 8. */
+section section_of(const uint8_t *record, size_t len);
+
+const list *list_of(const section *s);
+
+/* d of the strains and the law: the depth of the deepest layer, or h without bars. */
+unsigned effective_depth(const section *s);
+
+#endif

@@ -1,0 +1,107 @@
+#include "svg.h"
+
+#include <stdarg.h>
+#include <stdio.h>
+#include <string.h>
+
+void start_sheet(int height)
+{
+    printf("<svg xmlns=\"http://www.w3.org/2000/svg\" viewBox=\"0 0 %d %d\" width=\"%d\" height=\"%d\""
+           " font-family=\"Arial, Helvetica, 'Liberation Sans', 'DejaVu Sans', sans-serif\" stroke=\"none\" fill=\"black\">\n",
+           SCREEN_WIDTH, height, SCREEN_WIDTH, height);
+    box(0, 0, SCREEN_WIDTH, height, "white");
+}
+
+void end_sheet(void)
+{
+    puts("</svg>");
+}
+
+static void start_text(double x, double y, int size, int how)
+{
+    printf("<text x=\"%.1f\" y=\"%.1f\" font-size=\"%d\"", x, y, size);
+    if (how & BOLD)
+        printf(" font-weight=\"bold\"");
+    if (how & WHITE)
+        printf(" fill=\"white\"");
+    if (how & (END | MIDDLE))
+        printf(" text-anchor=\"%s\"", how & END ? "end" : "middle");
+    printf(">");
+}
+
+void text(double x, double y, int size, int how, const char *format, ...)
+{
+    va_list figures;
+    start_text(x, y, size, how);
+    va_start(figures, format);
+    vprintf(format, figures);
+    va_end(figures);
+    puts("</text>");
+}
+
+/* How many of these letters stand on a line of at most so many: up to the last blank that fits, or a whole word that does not. */
+static size_t fitting(const char *words, size_t letters)
+{
+    size_t end = strcspn(words, " ");
+    for (size_t next = end; words[next] != '\0' && next <= letters; next += 1 + strcspn(words + next + 1, " "))
+        end = next;
+    return strlen(words) <= letters ? strlen(words) : end;
+}
+
+double paragraph(double x, double y, int size, int how, int letters, const char *words)
+{
+    while (*words != '\0') {
+        size_t len = fitting(words, (size_t)letters);
+        text(x, y, size, how, "%.*s", (int)len, words);
+        words += len + (words[len] == ' ');
+        y += 1.3 * size;
+    }
+    return y;
+}
+
+static void stroke(double x1, double y1, double x2, double y2, double width, const char *dashes)
+{
+    printf("<line x1=\"%.1f\" y1=\"%.1f\" x2=\"%.1f\" y2=\"%.1f\" stroke=\"black\" stroke-width=\"%.1f\"%s/>\n", x1, y1, x2, y2, width, dashes);
+}
+
+void line(double x1, double y1, double x2, double y2, double width)
+{
+    stroke(x1, y1, x2, y2, width, "");
+}
+
+void dashed_line(double x1, double y1, double x2, double y2, double width)
+{
+    stroke(x1, y1, x2, y2, width, " stroke-dasharray=\"7 4\"");
+}
+
+/* With a white rim, so that dots that lie over each other are told apart. */
+void dot(double x, double y, double radius)
+{
+    printf("<circle cx=\"%.1f\" cy=\"%.1f\" r=\"%.1f\" stroke=\"white\" stroke-width=\"1.0\"/>\n", x, y, radius);
+}
+
+void box(double x, double y, double width, double height, const char *fill)
+{
+    printf("<rect x=\"%.1f\" y=\"%.1f\" width=\"%.1f\" height=\"%.1f\" fill=\"%s\"/>\n", x, y, width, height, fill);
+}
+
+void outline(double x, double y, double width, double height, double corner)
+{
+    printf("<rect x=\"%.1f\" y=\"%.1f\" width=\"%.1f\" height=\"%.1f\" rx=\"%.1f\" fill=\"none\" stroke=\"black\" stroke-width=\"2.0\"/>\n",
+           x, y, width, height, corner);
+}
+
+void start_line(double width, const char *fill)
+{
+    printf("<polyline stroke=\"black\" stroke-width=\"%.1f\" fill=\"%s\" points=\"", width, fill);
+}
+
+void point(double x, double y)
+{
+    printf(" %.1f,%.1f", x, y);
+}
+
+void end_line(void)
+{
+    puts("\"/>");
+}
