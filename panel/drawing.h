@@ -2,11 +2,26 @@
 #ifndef DRAWING_H
 #define DRAWING_H
 
+#include "fordwhistle.h"
 #include "law.h"
 #include "section.h"
 
-/* The head's lower edge and where its words stand beside its figure, the foot's upper edge, the line between left and right. */
-enum { HEAD = 60, HEAD_WORDS = 268, FOOT = 400, DIVIDE = 530 };
+/* The head's lower edge, the foot's upper edge, the line between left and right. */
+enum { HEAD = 60, FOOT = 400, DIVIDE = 530 };
+
+/* What is asked: a record by its number, of a book of which so many bytes were read, with what the unit says of it; and a class. */
+typedef struct {
+    const char *name;
+    size_t bytes;
+    fw_book_answer book;
+    uint32_t number;
+    int class_asked;
+    uint16_t fr1, fr3;
+} asked;
+
+/* Above: the moment to read, or what is refused. */
+void draw_head(const list *l);
+void draw_refused_head(uint32_t refusal);
 
 /* Where the section is drawn, dots a mm, whether its width goes on beyond what is drawn. */
 typedef struct {
@@ -15,6 +30,9 @@ typedef struct {
 } frame;
 
 frame frame_of(const section *s);
+
+/* Where a depth lies on the sheet. */
+double place_of(const frame *f, double mm);
 
 /* Left: concrete and stirrups, under the lines across; the layers, over them. */
 void draw_section(const section *s, const frame *f);
@@ -26,29 +44,16 @@ void draw_depths(const list *l, const frame *f);
 /* How high the sheet is: the screen, and what is listed below it where the depths are more than the screen has room for. */
 int sheet_height(const list *l);
 
-/* Above: the moment to read. */
-void draw_head(const list *l);
-
 /* Right: the law, and the stress over the height at the depth to read. */
 void draw_law(const section *s, const bends *b);
 void draw_stress(const section *s, const bends *b, const list *l);
 
-/* What is asked: a record by its number, of a book with so many, of which so many bytes were read; and a class. */
-typedef struct {
-    const char *book;
-    size_t bytes;
-    uint32_t number, count;
-    int class_asked;
-    uint16_t fr1, fr3;
-} asked;
-
-/* Below: load, shear, class, record. */
+/* Below: load and shear of a section that is accepted, else null; class; record, or the bytes of a book that is refused. */
 void draw_foot(const section *s, const asked *a);
 
-/* The whole sheet of what is refused. The section is null where there is none. */
-void draw_refused(uint32_t refusal, const section *s, const asked *a);
+/* Between head and foot: what a refusal means and what to do about it. The section is null where the record was not found. */
+void draw_refused(uint32_t refusal, const section *s);
 
-/* What a refusal means, and what to do about it. */
 typedef struct {
     const char *meaning, *remedy;
 } refusal_words;

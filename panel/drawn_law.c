@@ -45,7 +45,8 @@ static tension_line tension_line_of(const section *s, const bends *b)
     return t;
 }
 
-/* A name stands where its two lines leave room: over a peak, under a valley, else on the side that they turn away from. */
+/* A name stands where its two lines leave room: over a peak, under a valley or, where the axis is near, well above it, else on the side that
+ * they turn away from. */
 static void name_end(const tension_line *t, int i)
 {
     int rises = t->y[i] <= t->y[i - 1], rises_on = i + 1 < ENDS && t->y[i + 1] < t->y[i];
@@ -56,7 +57,7 @@ static void name_end(const tension_line *t, int i)
     else if (rises)
         text(t->x[i], t->y[i] - 6, 15, BOLD | MIDDLE, "s%d", i);
     else if (rises_on)
-        text(t->x[i], t->y[i] + 17, 15, BOLD | MIDDLE, "s%d", i);
+        text(t->x[i], t->y[i] + (t->y[i] > AXIS - 20 ? -20 : 17), 15, BOLD | MIDDLE, "s%d", i);
     else
         text(t->x[i] + 4, t->y[i] - 6, 15, BOLD, "s%d", i);
 }
@@ -84,20 +85,20 @@ static void draw_tension(const section *s, const bends *b)
 
 static void draw_compression(const section *s)
 {
-    double across = (double)COMPRESSION_WIDTH / MOST_COMPRESSION, fcd = compression_at(s, MOST_COMPRESSION);
+    double across = (double)COMPRESSION_WIDTH / MOST_COMPRESSION, fcd = stress_at(s, MOST_COMPRESSION);
     draw_axes(COMPRESSION, COMPRESSION_WIDTH, "compression");
     start_line(3, "none");
     for (int32_t strain = 0; strain <= MOST_COMPRESSION; strain += 100)
-        point(COMPRESSION + across * strain, AXIS - TALL * compression_at(s, strain) / fcd);
+        point(COMPRESSION + across * strain, AXIS - TALL * stress_at(s, strain) / fcd);
     end_line();
     text(COMPRESSION + COMPRESSION_WIDTH, AXIS - TALL - 6, 15, BOLD | END, "fcd");
 }
 
 /* These stresses and strains are whole numbers of kPa and of millionths, so that nothing is rounded. */
-static void tell(int place, const char *name, double stress, int32_t strain)
+static void tell(int place, const char *name, double stress, const char *where, int32_t strain)
 {
-    figure kpa = exact((int64_t)stress, 3), per_mille = exact(strain, 3);
-    text(DIVIDE + 12, AXIS + 38 + 18 * place, 15, PLAIN, "%s %s N/mm² at %s ‰", name, kpa.text, per_mille.text);
+    figure n_per_mm2 = exact((int64_t)stress, 3), per_mille = exact(strain, 3);
+    text(DIVIDE + 12, AXIS + 38 + 18 * place, 16, PLAIN, "%s %s N/mm² %s %s ‰", name, n_per_mm2.text, where, per_mille.text);
 }
 
 void draw_law(const section *s, const bends *b)
@@ -105,8 +106,8 @@ void draw_law(const section *s, const bends *b)
     text(DIVIDE + 12, HEAD + 21, 16, BOLD, "Concrete, fck %u N/mm²", s->fck);
     draw_tension(s, b);
     draw_compression(s);
-    tell(0, "s1", tension_at(s, b->e1), b->e1);
-    tell(1, "s2", tension_at(s, b->e2), b->e2);
-    tell(2, "s3", tension_at(s, b->e3), b->e3);
-    tell(3, "fcd", compression_at(s, MOST_COMPRESSION), MOST_COMPRESSION);
+    tell(0, "s1", tension_at(s, b->e1), "at", b->e1);
+    tell(1, "s2", tension_at(s, b->e2), "at", b->e2);
+    tell(2, "s3", tension_at(s, b->e3), "at", b->e3);
+    tell(3, "fcd", stress_at(s, b->plateau), "from", b->plateau);
 }

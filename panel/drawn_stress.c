@@ -3,12 +3,14 @@
 
 #include <inttypes.h>
 
+#include "figure.h"
 #include "svg.h"
 
 /* The room for it, and where its words stand beside it. */
 enum { LEFT = 546, WIDTH = 100, TOP = 304, HEIGHT = 90, WORDS = 668 };
 
-/* Strains that a line through the stresses needs: in compression every hundredth, in tension the bends, and both faces. */
+/* Strains that a line through the stresses needs: in compression every hundredth, in tension the bends, and those of both faces, rounded
+ * towards zero, which moves the line by less than a dot. */
 enum { STEP = 100, MOST_STRAINS = MOST_COMPRESSION / STEP + 6 };
 
 /* The law laid out over the height. As the header has it, the strain at depth y is num (x - y) / den, so each strain has its depth. The
@@ -23,8 +25,8 @@ static layout axis_at(const section *s, int64_t x)
 {
     int64_t d = effective_depth(s);
     if (7 * d > 27 * x)
-        return (layout){.x = x, .num = 10000, .den = d - x};
-    return (layout){.x = x, .num = 3500, .den = x};
+        return (layout){.x = x, .num = MOST_TENSION, .den = d - x};
+    return (layout){.x = x, .num = MOST_COMPRESSION, .den = x};
 }
 
 static void add(layout *l, int64_t strain)
@@ -51,12 +53,12 @@ static double largest_tension(const section *s, const layout *l)
 {
     double most = 0;
     for (int i = 0; i < l->count; i++)
-        if (-compression_at(s, l->strains[i]) > most)
-            most = -compression_at(s, l->strains[i]);
+        if (-stress_at(s, l->strains[i]) > most)
+            most = -stress_at(s, l->strains[i]);
     return most;
 }
 
-static double place_of(const section *s, const layout *l, int32_t strain)
+static double place_at(const section *s, const layout *l, int32_t strain)
 {
     double y = (double)l->x - (double)(strain * l->den) / (double)l->num;
     return TOP + HEIGHT * y / s->h;
@@ -68,27 +70,29 @@ static void draw_stresses(const section *s, const layout *l, double zero, double
     start_line(2, "#c8c8c8");
     point(zero, TOP);
     for (int i = 0; i < l->count; i++)
-        point(zero + scale * compression_at(s, l->strains[i]), place_of(s, l, l->strains[i]));
-    point(zero, place_of(s, l, l->strains[l->count - 1]));
+        point(zero + scale * stress_at(s, l->strains[i]), place_at(s, l, l->strains[i]));
+    point(zero, place_at(s, l, l->strains[l->count - 1]));
     end_line();
 }
 
+/* Which strain limits the section, and where. */
 static void draw_words(const section *s, const layout *l)
 {
-    int crushed = l->num == 3500;
+    const char *tension_limit = s->m > 0 ? "deepest layer" : "tension face";
+    figure limit = exact(l->num, 3);
     text(WORDS, TOP + 8, 15, BOLD, "at x %" PRId64 " mm", l->x);
     text(WORDS, TOP + 28, 15, PLAIN, "← tension");
     text(WORDS, TOP + 46, 15, PLAIN, "→ compression");
-    text(WORDS, TOP + 68, 15, PLAIN, "%s ‰ at the", crushed ? "3.5" : "10");
-    text(WORDS, TOP + 86, 15, PLAIN, "%s", crushed ? "compressed face" : s->m > 0 ? "deepest layer" : "tension face");
+    text(WORDS, TOP + 68, 15, PLAIN, "%s ‰ at the", limit.text);
+    text(WORDS, TOP + 86, 15, PLAIN, "%s", l->num == MOST_TENSION ? tension_limit : "compressed face");
 }
 
 void draw_stress(const section *s, const bends *b, const list *listed)
 {
     int64_t x = listed->depths[listed->least].x;
     layout l = layout_of(s, b, x);
-    double fcd = compression_at(s, MOST_COMPRESSION), most = largest_tension(s, &l), scale = WIDTH / (fcd + most);
-    double zero = LEFT + scale * most, y = place_of(s, &l, 0);
+    double fcd = stress_at(s, MOST_COMPRESSION), most = largest_tension(s, &l), scale = WIDTH / (fcd + most);
+    double zero = LEFT + scale * most, y = place_at(s, &l, 0);
     text(DIVIDE + 12, TOP - 20, 16, BOLD, "Stress over the height");
     draw_stresses(s, &l, zero, scale);
     line(zero, TOP, zero, TOP + HEIGHT, 2);

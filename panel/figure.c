@@ -19,9 +19,16 @@ static char *digits_before(char *end, int64_t number, int digits)
     return end;
 }
 
+/* How many of the last decimal's units a number has, rounded down: the only place where a figure is. */
+static int64_t steps_of(int64_t parts, int power, int decimals)
+{
+    int64_t step = ten_to(power - decimals);
+    return parts / step - (parts % step < 0);
+}
+
 figure rounded_down(int64_t parts, int power, int decimals)
 {
-    int64_t step = ten_to(power - decimals), unit = ten_to(decimals), steps = parts / step - (parts % step < 0), size = imaxabs(steps);
+    int64_t unit = ten_to(decimals), steps = steps_of(parts, power, decimals), size = imaxabs(steps);
     char digits[32] = "", *start = digits + sizeof digits - 1;
     figure f;
     if (decimals > 0) {
@@ -36,7 +43,7 @@ figure rounded_down(int64_t parts, int power, int decimals)
 figure four_digits(int64_t parts, int power)
 {
     int decimals = 3;
-    while (decimals > 0 && imaxabs(parts) >= ten_to(power + 4 - decimals))
+    while (decimals > 0 && imaxabs(steps_of(parts, power, decimals)) >= ten_to(4))
         decimals--;
     return rounded_down(parts, power, decimals);
 }

@@ -4,19 +4,21 @@
 
 #include "section.h"
 
-/* The drawn range. */
+/* The drawn range, at whose ends the strains of a section are limited too. */
 enum { MOST_TENSION = 10000, MOST_COMPRESSION = 3500 };
 
-/* The strains in tension, each above 0, to which the law goes straight: to the first crack, to where the fibres alone bear, to the end of the
- * range. */
+/* Strains above 0. In tension the law goes straight to e1, the first crack, to e2, from where the fibres alone bear, and to e3; in
+ * compression it is flat from the plateau on. */
 typedef struct {
-    int32_t e1, e2, e3;
+    int32_t e1, e2, e3, plateau;
 } bends;
 
 bends bends_of(const section *s);
 
-/* Of an accepted section, kPa. Both are zero or above, at strains of the drawn range. */
-double compression_at(const section *s, int32_t strain);
+/* Of an accepted section at a strain of the drawn range, kPa, compression positive. */
+double stress_at(const section *s, int32_t strain);
+
+/* The size of the stress at a strain that pulls, both zero or above. */
 double tension_at(const section *s, int32_t strain);
 
 #endif

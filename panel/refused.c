@@ -1,4 +1,4 @@
-/* The sheet of a refused book, record or section. */
+/* What refusals mean, and the sheet of a refused book, record or section. */
 #include "drawing.h"
 
 #include <inttypes.h>
@@ -7,29 +7,29 @@
 #include "figure.h"
 #include "svg.h"
 
-/* By number: the table of refusals, up to the last that leaves a sheet without its moment, and what to do. */
+/* By number, up to the last that leaves a sheet without its moment: the table of refusals, and what to do. */
 refusal_words words_of(uint32_t refusal)
 {
     static const refusal_words table[] = {
         {"", ""},
-        {"The book is shorter than 16 bytes, longer than 65536, or not of its stated length.",
+        {"The book is shorter than 16 bytes, longer than 65536 bytes, or not of its stated length.",
          "The card was cut short, or holds more than the book: copy the book again."},
         {"The last four bytes of the book are not BOOK.", "This is no section book, or its end is lost: copy the book again."},
         {"The place of the index + 4n + 16 is not the length of the book.", "The end of the book is damaged: copy the book again."},
-        {"The first record does not start at 0, a record has more than 8 layers, or one does not end where the next or the index starts.",
+        {"The first record does not start at byte 0, a record has more than 8 layers, or one does not end where the next or the index starts.",
          "The records or the index are damaged: copy the book again."},
         {"The book has no record of this number.", "Records are numbered from 0: ask for one that the book has."},
         {"The record is not 24 + 4m bytes, has more than 8 layers, or its zero is not zero.", "The record is damaged: file the section again."},
         {"The concrete is not in the table: fck is none of 20, 25, 30, 35, 40, 45, 50 N/mm².",
          "Choose a concrete of the table and file the section again."},
-        {"The width b is not 50 to 2000 mm, or the height h is not 50 to 1000 mm.", "Measure the section and file it again."},
+        {"The width b is not 50 to 2000 mm, or the height h is not 50 to 1000 mm.", "Check b and h and file the section again. Outside these limits there is no answer."},
         {"The bar strength fyk is not 400 to 600 N/mm².", "Look up the steel of the bars and file the section again."},
         {"The fibre strength feq2 or feq3 is over 20 N/mm².", "Look up the beam tests, mind the unit, kPa, and file the section again."},
         {"The axial load is not −10000 to 10000 kN.", "Mind the unit, N, and file the section again."},
-        {"Bars: a layer's depth is not 1 to h − 1, its area is 0, the depths do not rise, or the deepest layer is not below mid-height.",
-         "Give the layers in order from the compressed face and file the section again."},
+        {"Bars: a layer is not within the height or has no area, the depths do not rise, or the deepest layer is not below mid-height.",
+         "Give depth and area of each layer from the compressed face down, and file the section again."},
         {"There are stirrups without a spacing.", "Give the spacing s, or no stirrup area, and file the section again."},
-        {"There is no depth to list.", "At every depth one side outweighs the other: check the axial load, the bars and the fibres."},
+        {"There is no depth to list.", "The same side outweighs the other at every depth: check the axial load, the bars and the fibres."},
     };
     return table[refusal];
 }
@@ -53,7 +53,7 @@ static found_words found(uint32_t refusal, const section *s)
     found_words f = {""};
     figure feq2 = exact(s->feq2, 3), feq3 = exact(s->feq3, 3), load = exact(s->load, 3);
     switch (refusal) {
-    case 6: snprintf(f.text, sizeof f.text, "zero %u", s->zero); break;
+    case 6: snprintf(f.text, sizeof f.text, "%u in the field that has to be zero", s->zero); break;
     case 7: snprintf(f.text, sizeof f.text, "fck %u N/mm²", s->fck); break;
     case 8: snprintf(f.text, sizeof f.text, "b %u mm, h %u mm", s->b, s->h); break;
     case 9: snprintf(f.text, sizeof f.text, "fyk %u N/mm²", s->fyk); break;
@@ -65,43 +65,15 @@ static found_words found(uint32_t refusal, const section *s)
     return f;
 }
 
-static const char *what_is_refused(uint32_t refusal)
-{
-    if (refusal <= 4)
-        return "The book can't be read.";
-    return refusal <= 6 ? "The record can't be read." : "The section is outside the rules.";
-}
-
-static double draw_found(uint32_t refusal, const section *s, double y)
-{
-    found_words f = found(refusal, s);
-    text(12, y + 6, 19, BOLD, "The record has");
-    return paragraph(12, y + 30, 18, PLAIN, 88, f.text);
-}
-
-/* Of a refused book only its bytes are known, of a refused record also how many the book has. */
-static void draw_source(const asked *a, uint32_t refusal)
-{
-    line(0, FOOT, SCREEN_WIDTH, FOOT, 2);
-    if (refusal > 4)
-        text(12, FOOT + 48, 22, PLAIN, "Record %" PRIu32 ", book of %" PRIu32 " %s", a->number, a->count, a->count == 1 ? "record" : "records");
-    else if (a->bytes > 65536)
-        text(12, FOOT + 48, 22, PLAIN, "More than 65536 bytes were read");
-    else
-        text(12, FOOT + 48, 22, PLAIN, "%zu bytes were read", a->bytes);
-}
-
-void draw_refused(uint32_t refusal, const section *s, const asked *a)
+void draw_refused(uint32_t refusal, const section *s)
 {
     refusal_words w = words_of(refusal);
-    double y;
-    box(0, 0, SCREEN_WIDTH, HEAD, "black");
-    text(12, 42, 34, BOLD | WHITE, "refused: %" PRIu32, refusal);
-    text(HEAD_WORDS, 37, 22, WHITE, "%s", what_is_refused(refusal));
-    y = paragraph(12, HEAD + 42, 24, BOLD, 52, w.meaning);
-    if (s != NULL)
-        y = draw_found(refusal, s, y);
+    double y = paragraph(12, HEAD + 42, 24, BOLD, 52, w.meaning);
+    if (s != NULL) {
+        found_words f = found(refusal, s);
+        text(12, y + 6, 19, BOLD, "The record has");
+        y = paragraph(12, y + 30, 18, PLAIN, 70, f.text);
+    }
     text(12, y + 20, 19, BOLD, "What to do");
     paragraph(12, y + 50, 24, PLAIN, 56, w.remedy);
-    draw_source(a, refusal);
 }

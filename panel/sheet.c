@@ -6,7 +6,6 @@
 #include <string.h>
 
 #include "drawing.h"
-#include "fordwhistle.h"
 #include "svg.h"
 
 enum { ANSWERED, REFUSED, FAILED };
@@ -55,14 +54,14 @@ static int read_words(char **word, asked *a)
             return 0;
     }
     a->class_asked = first;
-    a->book = word[0];
+    a->name = word[0];
     return first == third && word[0] != NULL && (word[1] == NULL || (number_of(word[1], UINT32_MAX, &a->number) && word[2] == NULL));
 }
 
 /* What of the file has room in the book; whether it could be read. */
 static int read_book(asked *a)
 {
-    FILE *file = fopen(a->book, "rb");
+    FILE *file = fopen(a->name, "rb");
     int read = file != NULL;
     if (read) {
         a->bytes = fread(book, 1, sizeof book, file);
@@ -75,21 +74,17 @@ static int read_book(asked *a)
 static int draw_refusal(uint32_t refusal, const section *s, const asked *a)
 {
     start_sheet(SCREEN_HEIGHT);
-    draw_refused(refusal, s, a);
+    draw_refused_head(refusal);
+    draw_refused(refusal, s);
+    draw_foot(NULL, a);
     end_sheet();
     return REFUSED;
 }
 
-/* A section without a depth to list, 14, is accepted: all else that is asked of it has its answer. */
-static int draw_record(const section *s, const asked *a)
+static int draw_answers(const section *s, const list *l, const asked *a)
 {
-    const list *l = list_of(s);
-    frame f;
-    bends b;
-    if (l->refusal != 0 && l->refusal != NO_DEPTH)
-        return draw_refusal(l->refusal, s, a);
-    f = frame_of(s);
-    b = bends_of(s);
+    frame f = frame_of(s);
+    bends b = bends_of(s);
     start_sheet(sheet_height(l));
     draw_head(l);
     draw_section(s, &f);
@@ -104,15 +99,17 @@ static int draw_record(const section *s, const asked *a)
     return ANSWERED;
 }
 
-static int draw(asked *a)
+/* A section without a depth to list, 14, is accepted: all else that is asked of it has its answer. */
+static int draw(const asked *a)
 {
     fw_record_answer part = fw_record(book, a->bytes, a->number);
     section s;
-    a->count = fw_book(book, a->bytes).count;
+    const list *l;
     if (part.refusal != 0)
         return draw_refusal(part.refusal, NULL, a);
     s = section_of(book + part.at, part.len);
-    return draw_record(&s, a);
+    l = list_of(&s);
+    return l->refusal == 0 || l->refusal == NO_DEPTH ? draw_answers(&s, l, a) : draw_refusal(l->refusal, &s, a);
 }
 
 int main(int count, char **word)
@@ -122,7 +119,8 @@ int main(int count, char **word)
     if (count < 1 || !read_words(word + 1, &a))
         return fail("usage: sheet [--fr1 KPA --fr3 KPA] BOOK [RECORD]; KPA is 0 to 65535, RECORD 0 or more", "");
     if (!read_book(&a))
-        return fail("can't read ", a.book);
+        return fail("can't read ", a.name);
+    a.book = fw_book(book, a.bytes);
     status = draw(&a);
     if (fflush(stdout) != 0 || ferror(stdout))
         return fail("can't write the sheet", "");

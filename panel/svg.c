@@ -39,19 +39,32 @@ void text(double x, double y, int size, int how, const char *format, ...)
     puts("</text>");
 }
 
-/* How many of these letters stand on a line of at most so many: up to the last blank that fits, or a whole word that does not. */
-static size_t fitting(const char *words, size_t letters)
+/* A letter is one byte or several; all but its first begin with the bits 10. */
+static int letters_of(const char *words, size_t bytes)
+{
+    int letters = 0;
+    for (size_t i = 0; i < bytes; i++)
+        letters += ((unsigned char)words[i] & 0xc0) != 0x80;
+    return letters;
+}
+
+/* How many bytes of the words stand on a line of at most so many letters: whole words, at least one. */
+static size_t fitting(const char *words, int letters)
 {
     size_t end = strcspn(words, " ");
-    for (size_t next = end; words[next] != '\0' && next <= letters; next += 1 + strcspn(words + next + 1, " "))
+    while (words[end] != '\0') {
+        size_t next = end + 1 + strcspn(words + end + 1, " ");
+        if (letters_of(words, next) > letters)
+            break;
         end = next;
-    return strlen(words) <= letters ? strlen(words) : end;
+    }
+    return end;
 }
 
 double paragraph(double x, double y, int size, int how, int letters, const char *words)
 {
     while (*words != '\0') {
-        size_t len = fitting(words, (size_t)letters);
+        size_t len = fitting(words, letters);
         text(x, y, size, how, "%.*s", (int)len, words);
         words += len + (words[len] == ' ');
         y += 1.3 * size;

@@ -1,13 +1,12 @@
 /* What of the sheet's own sums no golden sheet shows: figures at the edges of their rounding, a least moment that is not the first, labels that have
  * to give way on both sides. The sheet's files stand here themselves, with a list of depths in place of the unit's. */
+#define fw_depths lent_list
 #include "fordwhistle.h"
 
 #include <string.h>
 
 #include "check.h"
 
-static fw_listed lent_list(const uint8_t *record, size_t len, int64_t *row, size_t words);
-#define fw_depths lent_list
 #include "../../panel/figure.c"
 #include "../../panel/section.c"
 #include "../../panel/spread.c"
@@ -15,7 +14,7 @@ static fw_listed lent_list(const uint8_t *record, size_t len, int64_t *row, size
 static const int64_t *moments;
 static uint32_t count;
 
-static fw_listed lent_list(const uint8_t *record, size_t len, int64_t *row, size_t words)
+fw_listed lent_list(const uint8_t *record, size_t len, int64_t *row, size_t words)
 {
     (void)record, (void)len, (void)words;
     for (uint32_t i = 0; i < count; i++) {
@@ -50,7 +49,8 @@ static void resistances_have_four_digits(void)
     CHECK(is(four_digits(999999999, 6), "999.9"));
     CHECK(is(four_digits(1000000000, 6), "1000"));
     CHECK(is(four_digits(123456999999, 6), "123456"));
-    CHECK(is(four_digits(-9999999, 6), "−10.000"));
+    CHECK(is(four_digits(-9999000, 6), "−9.999"));
+    CHECK(is(four_digits(-9999001, 6), "−10.00"));
     CHECK(is(kilonewton_metres(14476473000), "7.238"));
     CHECK(is(kilonewton_metres(-1), "−0.001"));
 }

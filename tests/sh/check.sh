@@ -25,7 +25,7 @@ gives() {
     [ "$?" -eq "$status" ] && cmp target/tests/printed "$file"
 }
 
-# says WORDS: whether that is what gives left.
+# says WORDS: whether these are in target/tests/said.
 says() {
     grep -qF "$1" target/tests/said
 }

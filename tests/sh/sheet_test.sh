@@ -6,6 +6,7 @@ cd "$(dirname "$0")/../.." || exit 1
 . tests/sh/check.sh
 . tests/sh/book.sh
 sheet=target/tests/sheet
+lent=target/tests/lent-sheet
 depths=target/tests/depths
 sample=crates/booklines/stdin
 made=target/tests/sheets
@@ -16,16 +17,24 @@ rm -rf "$made" && mkdir -p "$made"
 one_record 1000 120 40 500 20000 11000 -439304 0 0 61 1000 >"$made/several.book"
 one_record 1361 999 40 500 19871 10886 -1602589 0 0 502 2245 504 1424 >"$made/many.book"
 one_record 400 600 30 500 2000 2000 500000 157 200 40 402 110 226 180 226 250 226 330 226 410 226 500 628 550 1608 >"$made/eight.book"
-one_record 300 300 30 500 2000 2000 0 0 0 30 402 30 402 >"$made/bars.book"
+one_record 50 1000 30 500 0 20000 0 157 200 960 402 965 226 970 226 980 226 985 1608 >"$made/narrow.book"
+# Its depth is the last, h.
+one_record 1000 100 30 500 3700 4500 1376184 157 200 >"$made/wide.book"
+one_record 300 300 30 500 2000 2000 0 0 0 30 402 30 402 90 226 120 226 150 226 180 226 210 226 270 65535 >"$made/bars.book"
+one_record 400 600 30 500 2000 2000 0 0 7 >"$made/seven.book"
+one_record 400 600 30 500 2000 2000 0 0 8 >"$made/eight_depths.book"
 pulled >"$made/pulled.book"
 head -c 75 "$sample" >"$made/cut.book"
 
-# golden STATUS FILE WORD..: whether the sheet is the one that is kept; asked to write, keeps it.
+# golden FILE MADE: whether what was made is what is kept; asked to write, keeps it.
 golden() {
-    local status=$1 file=$2
-    shift 2
-    [ "$mode" != write ] || "$sheet" "$@" >"$file"
-    drawn "$status" "$@" && cmp target/tests/printed "$file"
+    [ "$mode" != write ] || cp "$2" "$1"
+    cmp "$2" "$1"
+}
+
+# golden_sheet STATUS FILE WORD..: the same of a sheet.
+golden_sheet() {
+    drawn "$1" "${@:3}" && golden "$2" target/tests/printed
 }
 
 # drawn STATUS WORD..: whether a sheet is drawn with this status, and nothing said beside it. It is kept, to be read as XML.
@@ -61,12 +70,12 @@ shown() {
         awk '/^x/ { x = $0 } /kNm$/ { moment = $0 } /^[be]/ { kind = $0 } NR % 3 == 0 { print x "|" kind "|" moment }' | tail -n "$1"
 }
 
-# every_depth BOOK COUNT: whether the sheet shows all depths of its record, so many, and each has its line across the section, one of them
-# thick.
+# every_depth BOOK COUNT: whether the sheet shows all depths of its record, so many, and each has its line across the section, which is as wide
+# as there is room for; one of them is thick.
 every_depth() {
     listed "$1" >target/tests/expected
     drawn 0 "$1" && [ "$(wc -l <target/tests/expected)" -eq "$2" ] && shown "$2" | cmp - target/tests/expected &&
-        [ "$(grep -c 'stroke-width="4.0"' target/tests/printed) $(grep -c 'stroke-width="1.5"' target/tests/printed)" = "1 $(($2 - 1))" ]
+        [ "$(grep -c 'x2="269.0".*"2.5"' target/tests/printed) $(grep -c 'x2="269.0".*"1.0"' target/tests/printed)" = "1 $(($2 - 1))" ]
 }
 
 # with BYTE AT: the sample book with another byte there.
@@ -76,13 +85,13 @@ with() {
     tail -c +$(($2 + 2)) "$sample"
 }
 
-# refuses NUMBER WORDS: whether the book on standard input is refused so, and the sheet shows the number and the words.
+# refuses NUMBER [RECORD]: whether the book on standard input is refused so. The words of its sheet are added to all the refused ones'.
 refuses() {
     cat >"$made/refused.book"
-    drawn 1 "$made/refused.book" && shows "refused: $1" && shows "$2"
+    drawn 1 "$made/refused.book" "${@:2}" && shows "refused: $1" && sed -nE 's/.*>(.*)<\/text>/\1/p' target/tests/printed >>"$made/refusals.txt"
 }
 
-# What is damaged: each byte of the sample book, then its length. No sheet fails, whichever record is drawn.
+# Each byte of the sample book changed, and the book cut there: no sheet fails.
 damaged() {
     local at byte
     for ((at = 0; at < 76; at++)); do
@@ -100,6 +109,12 @@ for name in sys.argv[1:]:
     xml.sax.parse(name, xml.sax.ContentHandler())' "$@" 2>target/tests/said
 }
 
+# So that the above is known to fail.
+half_a_sheet() {
+    head -c 999 docs/sheet.svg >"$made/half.svg"
+    ! well_formed "$made/half.svg" && says SAXParseException
+}
+
 # fails WORD..: whether nothing is drawn, with one line on standard error.
 fails() {
     gives 2 /dev/null "$sheet" "$@" && [ "$(wc -l <target/tests/said)" -eq 1 ]
@@ -114,47 +129,51 @@ mode=${1-compare}
 sheets=0
 check 'builds' tests/cc "$sheet" panel/*.c
 check 'depths to compare with' tests/cc "$depths" examples/depths.c
-check 'record 0' golden 0 tests/sheets/record_0.svg "$sample"
-check 'record 1' golden 0 tests/sheets/record_1.svg "$sample" 1
-check 'several depths' golden 0 docs/sheet.svg "$made/several.book"
-check 'eight layers' golden 0 tests/sheets/eight_layers.svg --fr1 7100 --fr3 8700 "$made/eight.book"
-check 'refused section' golden 1 tests/sheets/refused_section.svg "$made/bars.book"
-check 'refused book' golden 1 tests/sheets/refused_book.svg "$made/cut.book"
-
-# The golden sheets were drawn under a look for leaks too, which takes seconds a run on some machines.
+check 'record 0' golden_sheet 0 tests/sheets/record_0.svg "$sample"
+check 'record 1' golden_sheet 0 tests/sheets/record_1.svg "$sample" 1
+check 'several depths' golden_sheet 0 docs/sheet.svg "$made/several.book"
+check 'eight layers' golden_sheet 0 tests/sheets/eight_layers.svg --fr1 7100 --fr3 8700 "$made/eight.book"
+check 'narrow section' golden_sheet 0 tests/sheets/narrow.svg "$made/narrow.book"
+check 'wide section' golden_sheet 0 tests/sheets/wide.svg "$made/wide.book"
+check 'refused section' golden_sheet 1 tests/sheets/refused_section.svg --fr1 1220 --fr3 1060 "$made/bars.book"
+check 'refused book' golden_sheet 1 tests/sheets/refused_book.svg "$made/cut.book"
+# The golden sheets so far were drawn under a look for leaks too, which takes seconds a run on some machines.
 export ASAN_OPTIONS=detect_leaks=0
+
 check 'every depth of seven' every_depth "$made/several.book" 7
 check 'every depth of 39' every_depth "$made/many.book" 39
 check 'a moment below zero' every_depth "$made/pulled.book" 1
+check 'builds with a lent list' env FW_CFLAGS='-Iinclude -Dfw_depths=lent_list' tests/cc "$lent" panel/*.c tests/c/lent.c
+sheet=$lent check 'the least moment last' golden_sheet 0 tests/sheets/least_last.svg "$made/seven.book"
+sheet=$lent check 'more depths than the screen has room for' golden_sheet 0 tests/sheets/more_depths.svg "$made/eight_depths.book"
 
 check 'no class' drawn 0 --fr3 5000 --fr1 999 "$sample"
-check 'fR1 is told' shows '17: fR1 is below 1 N/mm²'
-check 'no class for fR3' drawn 0 --fr1 4000 --fr3 1999 "$sample"
-check 'fR3 is told' shows '17: fR3 is below half the step'
+check 'fR1 is told' shows '17: fR1 below 1 N/mm²'
+check 'no class for fR3' drawn 0 --fr1 1000 --fr3 499 "$sample"
+check 'fR3 is told' shows '17: fR3 below half the step'
 
-# A number, a byte of the sample book and its place, and what the sheet has to show: of a book its bytes, of a record what it holds.
-while read -r number byte at words; do
-    check "refusal $number" refuses "$number" "$words" < <(with "$byte" "$at")
+# A number, and the sample book with a byte at a place.
+while read -r number byte at; do
+    check "refusal $number" refuses "$number" < <(with "$byte" "$at")
 done <<END
-2 0 75 76 bytes were read
-3 53 60 76 bytes were read
-4 9 20 76 bytes were read
-6 1 22 zero 1
-7 29 4 fck 29 N/mm²
-8 255 1 b 65512 mm, h 100 mm
-9 255 7 fyk 65524 N/mm²
-10 255 11 feq2 3.7 N/mm², feq3 65.428 N/mm²
-11 255 15 axial load −16777.216 kN
-13 7 16 Asw 7 mm², s 0 mm
+2 0 75
+3 53 60
+4 9 20
+6 1 22
+7 29 4
+8 255 1
+9 255 7
+10 255 11
+11 255 15
+13 7 16
 END
-check 'refusal 1 of a long book' refuses 1 'More than 65536 bytes were read' < <(head -c 99999 /dev/zero)
-check 'refusal 5' drawn 1 "$sample" 2
-check 'its record and its book' shows 'Record 2, book of 2 records'
+check 'refusal 1 of a long book' refuses 1 < <(head -c 99999 /dev/zero)
+check 'refusal 5' refuses 5 2 <"$sample"
+check 'the words of refusals' golden tests/sheets/refusals.txt "$made/refusals.txt"
 check 'damaged books' damaged
 
 check 'well formed' well_formed "$made"/*.svg
-head -c 999 docs/sheet.svg >"$made/short.svg"
-check 'half a sheet is not' eval '! well_formed "$made/short.svg"'
+check 'half a sheet is not' half_a_sheet
 
 while read -ra words; do
     check "bad arguments: ${words[*]}" fails "${words[@]}"
