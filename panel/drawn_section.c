@@ -9,6 +9,8 @@ enum { LEFT = 108, TOP = 88, WIDTH = 154, HEIGHT = 248, LABEL = 34, LABELS_END =
 /* The radius of a layer's dot, in tenths of the screen's: the largest one's, and the least that is still seen. */
 enum { LARGEST = 110, SMALLEST = 30 };
 
+static const char grey[] = "#808080";
+
 static double least(double a, double b)
 {
     return a < b ? a : b;
@@ -62,17 +64,17 @@ static void draw_concrete(const section *s, const frame *f)
         text(WORDS, TOP + HEIGHT + (s->asw > 0 ? 59 : 41), 15, PLAIN, "(a piece of the width is drawn)");
 }
 
-/* In a piece of the width their upper and lower legs alone. */
+/* Grey and broad, so that they are not taken for depths; in a piece of the width their upper and lower legs alone. */
 static void draw_stirrups(const section *s, const frame *f)
 {
-    double inset = least(9, f->width / 5), bottom = f->top + f->height - inset;
+    double inset = least(9, f->width / 4), broad = inset / 2.5;
     if (s->asw == 0)
         return;
     if (f->broken) {
-        line(f->left, f->top + inset, f->left + f->width, f->top + inset, 2);
-        line(f->left, bottom, f->left + f->width, bottom, 2);
+        box(f->left, f->top + inset - broad / 2, f->width, broad, grey);
+        box(f->left, f->top + f->height - inset - broad / 2, f->width, broad, grey);
     } else {
-        outline(f->left + inset, f->top + inset, f->width - 2 * inset, f->height - 2 * inset, inset / 2);
+        outline(f->left + inset, f->top + inset, f->width - 2 * inset, f->height - 2 * inset, broad, grey);
     }
     text(WORDS, TOP + HEIGHT + 41, 15, PLAIN, "stirrups %u mm² every %u mm", s->asw, s->s);
 }

@@ -72,19 +72,19 @@ double paragraph(double x, double y, int size, int how, int letters, const char 
     return y;
 }
 
-static void stroke(double x1, double y1, double x2, double y2, double width, const char *dashes)
+static void draw_line(double x1, double y1, double x2, double y2, double width, const char *dashes)
 {
     printf("<line x1=\"%.1f\" y1=\"%.1f\" x2=\"%.1f\" y2=\"%.1f\" stroke=\"black\" stroke-width=\"%.1f\"%s/>\n", x1, y1, x2, y2, width, dashes);
 }
 
 void line(double x1, double y1, double x2, double y2, double width)
 {
-    stroke(x1, y1, x2, y2, width, "");
+    draw_line(x1, y1, x2, y2, width, "");
 }
 
 void dashed_line(double x1, double y1, double x2, double y2, double width)
 {
-    stroke(x1, y1, x2, y2, width, " stroke-dasharray=\"7 4\"");
+    draw_line(x1, y1, x2, y2, width, " stroke-dasharray=\"7 4\"");
 }
 
 /* With a white rim, so that dots that lie over each other are told apart. */
@@ -98,10 +98,10 @@ void box(double x, double y, double width, double height, const char *fill)
     printf("<rect x=\"%.1f\" y=\"%.1f\" width=\"%.1f\" height=\"%.1f\" fill=\"%s\"/>\n", x, y, width, height, fill);
 }
 
-void outline(double x, double y, double width, double height, double corner)
+void outline(double x, double y, double width, double height, double broad, const char *stroke)
 {
-    printf("<rect x=\"%.1f\" y=\"%.1f\" width=\"%.1f\" height=\"%.1f\" rx=\"%.1f\" fill=\"none\" stroke=\"black\" stroke-width=\"2.0\"/>\n",
-           x, y, width, height, corner);
+    printf("<rect x=\"%.1f\" y=\"%.1f\" width=\"%.1f\" height=\"%.1f\" rx=\"%.1f\" fill=\"none\" stroke=\"%s\" stroke-width=\"%.1f\"/>\n",
+           x, y, width, height, broad, stroke, broad);
 }
 
 void start_line(double width, const char *fill)

@@ -22,7 +22,7 @@ void line(double x1, double y1, double x2, double y2, double width);
 void dashed_line(double x1, double y1, double x2, double y2, double width);
 void dot(double x, double y, double radius);
 void box(double x, double y, double width, double height, const char *fill);
-void outline(double x, double y, double width, double height, double corner);
+void outline(double x, double y, double width, double height, double broad, const char *stroke);
 
 /* A line through points, which stand between these two, and what it encloses filled. */
 void start_line(double width, const char *fill);
