@@ -183,7 +183,8 @@ done <<END
 
 --fr1 1000 $sample
 --fr3 1000 $sample
---fr1 1000 --fr1 1000 $sample
+--fr1 1000 --fr1 1000 --fr3 1000 $sample
+--fr3 1000 --fr1 1000 --fr3 1000 $sample
 --fr1 1000 --fr3 65536 $sample
 --fr1 -1 --fr3 1000 $sample
 --fr1 1000 --fr3
