@@ -32,15 +32,12 @@ typedef struct {
 
 static tension_line tension_line_of(const section *s, const bends *b)
 {
-    const int32_t strains[ENDS] = {0, b->e1, b->e2, b->e3};
+    const int32_t strains[ENDS] = {0, -b->e1, -b->e2, -b->e3};
     tension_line t = {{0}, {0}};
-    double most = 0;
-    for (int i = 0; i < ENDS; i++)
-        if (tension_at(s, strains[i]) > most)
-            most = tension_at(s, strains[i]);
+    double scale = TALL / largest_tension(s, strains, ENDS);
     for (int i = 0; i < ENDS; i++) {
-        t.x[i] = tension_place(b, strains[i]);
-        t.y[i] = AXIS - TALL * tension_at(s, strains[i]) / most;
+        t.x[i] = tension_place(b, -strains[i]);
+        t.y[i] = AXIS + scale * stress_at(s, strains[i]);
     }
     return t;
 }

@@ -49,15 +49,6 @@ static layout layout_of(const section *s, const bends *b, int64_t x)
     return l;
 }
 
-static double largest_tension(const section *s, const layout *l)
-{
-    double most = 0;
-    for (int i = 0; i < l->count; i++)
-        if (-stress_at(s, l->strains[i]) > most)
-            most = -stress_at(s, l->strains[i]);
-    return most;
-}
-
 static double place_at(const section *s, const layout *l, int32_t strain)
 {
     double y = (double)l->x - (double)(strain * l->den) / (double)l->num;
@@ -91,7 +82,7 @@ void draw_stress(const section *s, const bends *b, const list *listed)
 {
     int64_t x = listed->depths[listed->least].x;
     layout l = layout_of(s, b, x);
-    double fcd = stress_at(s, MOST_COMPRESSION), most = largest_tension(s, &l), scale = WIDTH / (fcd + most);
+    double fcd = stress_at(s, MOST_COMPRESSION), most = largest_tension(s, l.strains, l.count), scale = WIDTH / (fcd + most);
     double zero = LEFT + scale * most, y = place_at(s, &l, 0);
     text(DIVIDE + 12, TOP - 20, 16, BOLD, "Stress over the height");
     draw_stresses(s, &l, zero, scale);

@@ -14,6 +14,15 @@ double tension_at(const section *s, int32_t strain)
     return 0 - stress_at(s, -strain);
 }
 
+double largest_tension(const section *s, const int32_t *strains, int count)
+{
+    double least = 0;
+    for (int i = 0; i < count; i++)
+        if (stress_at(s, strains[i]) < least)
+            least = stress_at(s, strains[i]);
+    return 0 - least;
+}
+
 /* The section without fibre help. */
 static section without_fibres(const section *s, uint8_t *record)
 {

@@ -21,4 +21,7 @@ double stress_at(const section *s, int32_t strain);
 /* The size of the stress at a strain that pulls, both zero or above. */
 double tension_at(const section *s, int32_t strain);
 
+/* The largest size of a stress that pulls, at some of these strains, compression positive; zero where none does. */
+double largest_tension(const section *s, const int32_t *strains, int count);
+
 #endif

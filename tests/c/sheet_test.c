@@ -1,29 +1,11 @@
-/* What of the sheet's own sums no golden sheet shows: figures at the edges of their rounding, a least moment that is not the first, labels that have
- * to give way on both sides. The sheet's files stand here themselves, with a list of depths in place of the unit's. */
-#define fw_depths lent_list
-#include "fordwhistle.h"
-
+/* What of the sheet's own sums no golden sheet shows: figures at the edges of their rounding, labels that have to give way on both sides. The
+ * sheet's files stand here themselves. */
 #include <string.h>
 
 #include "check.h"
 
 #include "../../panel/figure.c"
-#include "../../panel/section.c"
 #include "../../panel/spread.c"
-
-static const int64_t *moments;
-static uint32_t count;
-
-fw_listed lent_list(const uint8_t *record, size_t len, int64_t *row, size_t words)
-{
-    (void)record, (void)len, (void)words;
-    for (uint32_t i = 0; i < count; i++) {
-        row[3 * i] = i + 1;
-        row[3 * i + 1] = 1;
-        row[3 * i + 2] = moments[i];
-    }
-    return (fw_listed){0, count};
-}
 
 static int is(figure f, const char *text)
 {
@@ -65,24 +47,6 @@ static void what_is_exact_loses_nothing(void)
     CHECK(is(exact(0, 3), "0"));
 }
 
-static uint32_t least_of(const int64_t *in, uint32_t n)
-{
-    static const uint8_t record[24];
-    section s = section_of(record, sizeof record);
-    moments = in;
-    count = n;
-    return list_of(&s)->least;
-}
-
-static void the_least_moment_is_found_anywhere(void)
-{
-    static const int64_t falling[] = {30, 20, 10}, valley[] = {30, -10, 20}, twice[] = {30, 10, 10};
-    CHECK(least_of(falling, 3) == 2);
-    CHECK(least_of(valley, 3) == 1);
-    CHECK(least_of(twice, 3) == 1);
-    CHECK(least_of(falling, 1) == 0);
-}
-
 static int stand(double *tops, const double *expected)
 {
     static const double heights[] = {10, 20, 10};
@@ -104,7 +68,6 @@ int main(void)
     figures_are_rounded_down();
     resistances_have_four_digits();
     what_is_exact_loses_nothing();
-    the_least_moment_is_found_anywhere();
     labels_give_way();
     return verdict();
 }

@@ -21,8 +21,8 @@ one_record 50 1000 30 500 0 20000 0 157 200 960 402 965 226 970 226 980 226 985 
 # Its depth is the last, h.
 one_record 1000 100 30 500 3700 4500 1376184 157 200 >"$made/wide.book"
 one_record 300 300 30 500 2000 2000 0 0 0 30 402 30 402 90 226 120 226 150 226 180 226 210 226 270 65535 >"$made/bars.book"
-# For the lent list, of three depths and of eight. At the third, 30 mm, it is just the tension face that limits the strain.
-one_record 400 117 30 500 2000 2000 0 0 3 >"$made/three_depths.book"
+# For the lent list, of three depths and of eight. At the second, 20 mm, it is just the tension face that limits the strain.
+one_record 400 78 30 500 2000 2000 0 0 3 >"$made/three_depths.book"
 one_record 400 600 30 500 2000 2000 0 0 8 >"$made/eight_depths.book"
 pulled >"$made/pulled.book"
 head -c 75 "$sample" >"$made/cut.book"
@@ -146,7 +146,7 @@ check 'every depth of 39' every_depth "$made/many.book" 39
 check 'a moment below zero' every_depth "$made/pulled.book" 1
 check 'it is told' shows 'is the moment to read, at x 9 mm: below zero.'
 check 'builds with a lent list' env FW_CFLAGS='-Iinclude -Dfw_depths=lent_list' tests/cc "$lent" panel/*.c tests/c/lent.c
-sheet=$lent check 'the least moment last' golden_sheet 0 tests/sheets/least_last.svg "$made/three_depths.book"
+sheet=$lent check 'the least moment later, and twice' golden_sheet 0 tests/sheets/least_later.svg "$made/three_depths.book"
 sheet=$lent check 'more depths than the screen has room for' golden_sheet 0 tests/sheets/more_depths.svg "$made/eight_depths.book"
 
 check 'no class' drawn 0 --fr3 5000 --fr1 999 "$sample"
