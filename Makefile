@@ -1,5 +1,5 @@
 # The section unit: the commands a reader needs. `make` alone lists them.
-.PHONY: help test bench run sheet lib install fmt clean
+.PHONY: help test controls bench run sheet lib install fmt clean
 
 # The book that `make run` and `make sheet` read, the record that is drawn, and where `make install` puts what it installs.
 BOOK ?= crates/booklines/stdin
@@ -9,6 +9,7 @@ export BOOK RECORD PREFIX DESTDIR
 
 help:
 	@echo 'make test                  prove every crate, then test the library from C and from Rust, and these commands'
+	@echo 'make controls              prove the control of each must-fail edit that has one: the right program of its shape'
 	@echo 'make bench                 time the list of depths against plain C'
 	@echo 'make run [BOOK=file]       print the lines of a book, the sample book if none is named'
 	@echo 'make sheet [BOOK=file] [RECORD=number]'
@@ -20,6 +21,9 @@ help:
 
 test:
 	@tests/run
+
+controls:
+	@tests/controls
 
 bench:
 	@bench/run

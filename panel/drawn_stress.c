@@ -23,7 +23,7 @@ typedef struct {
 
 static layout axis_at(const section *s, int64_t x)
 {
-    int64_t d = effective_depth(s);
+    int64_t d = limit_depth(s);
     if (7 * d > 27 * x)
         return (layout){.x = x, .num = MOST_TENSION, .den = d - x};
     return (layout){.x = x, .num = MOST_COMPRESSION, .den = x};

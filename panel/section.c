@@ -52,7 +52,7 @@ const list *list_of(const section *s)
     return &l;
 }
 
-unsigned effective_depth(const section *s)
+unsigned limit_depth(const section *s)
 {
     return s->m > 0 ? s->layers[s->m - 1].depth : s->h;
 }

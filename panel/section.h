@@ -36,7 +36,7 @@ section section_of(const uint8_t *record, size_t len);
 
 const list *list_of(const section *s);
 
-/* d of the strains and the law: the depth of the deepest layer, or h without bars. */
-unsigned effective_depth(const section *s);
+/* Where the strain of 10 per mille is reached: the depth of the deepest layer, or h without bars. */
+unsigned limit_depth(const section *s);
 
 #endif

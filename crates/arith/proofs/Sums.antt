@@ -8,7 +8,7 @@ use native.Mathlib.Omega.{arith}
 use lib.IntN.{ℤ, pos, natAbs, _+ℤ_}
 use mir.Syntax.{w64}
 use mir.Val.{SFits}
-use Rattle.arith.specs.Sums.{sumN, sumZ, prodN, after}
+use Rattle.arith.specs.Sums.{sumN, sumZ, after}
 use Rattle.arith.proofs.Machine.{back, Stands, stands, stands-add, stands-fits, stored, returned, stands-for}
 
 pub sum-next : (f : ℕ → ℕ) (n : ℕ) → sumN (n + 1) f ≡ sumN n f + f n
@@ -145,11 +145,15 @@ running-all {f} {B} {n} m M h e k =
     let s = stands-for (h .sum) in
     (s .0 ∙ ap (λ i. sumZ i f) e, omega (arith, s .1, ap (λ i. B * i) e, NatL.mul-le-mul-left B k))
 
--- ---- where the terms are positive; and each factor divides the product
+-- ---- where the terms are positive; a product, and that each factor divides it
 pub sum-positive : (n : ℕ) (f : ℕ → ℕ) → 0 < n → ((i : ℕ) → i < n → 0 < f i) → 0 < sumN n f
 unfolding sumN
 sum-positive zero f some h = absurd (omega arith)
 sum-positive (suc n) f some h = omega (arith, h n (omega arith))
+
+unfoldable pub prodN : ℕ → (ℕ → ℕ) → ℕ
+prodN zero f = 1
+prodN (suc n) f = prodN n f * f n
 
 pub prod-positive : (n : ℕ) (f : ℕ → ℕ) → ((i : ℕ) → i < n → 0 < f i) → 0 < prodN n f
 unfolding prodN

@@ -8,5 +8,6 @@ pub mod Signs
 pub mod Rows
 pub mod Answers
 pub mod Rounded
+pub mod Common
 pub mod Theorems
 pub mod Shown

@@ -1,16 +1,16 @@
--- How far the rounded sums of a depth lie from the exact ones, for any law whose lines lead on. Assumes nothing.
-use Prim.Native.Nat.{ℕ, _+_, _-_, _*_, _/_, _≤_, _<_, _∣_}
-use mathlib.Core.Path.{_≡_, refl, ap}
+-- How far the rounded sums of a depth lie from the exact ones, over any denominator and for any law. Assumes nothing.
+use Prim.Native.Nat.{ℕ, _+_, _-_, _*_, _/_, _≤_, _<_}
+use mathlib.Core.Path.{_≡_, refl, ap, _∙_}
 use mathlib.Core.Bool.{Bool, true, false, cond}
 use native.Mathlib.Nat as NatL
 use native.Mathlib.Omega.{arith}
 use lib.Dec.{ltb, leb}
-use lib.IntN.{ℤ, pos, _-ℤ_, _*ℤ_}
-use lib.Signed.{_<ℤ_}
+use lib.IntN.{ℤ, pos, negℤ, natAbs, negℤ-negℤ, _+ℤ_, _-ℤ_, _*ℤ_}
+use lib.Signed.{_≤ℤ_, _<ℤ_}
 use borrow.Author.Tests.{ltb-true}
 use Rattle.arith.specs.Sums.{sumN, sumZ}
-use Rattle.arith.proofs.Signed.{lever-most}
-use Rattle.arith.proofs.Sums.{sum-positive, prod-positive, factor-divides}
+use Rattle.arith.proofs.Signed.{up, dn, same, up-scale, dn-scale, mul-neg, lever-most}
+use Rattle.arith.proofs.Sums.{sum-positive}
 use Rattle.arith.proofs.Rounding.{Within, within-exact, within-floor, within-neg, within-add, within-scale, within-wider, within-above, within-below, within-sum}
 use Rattle.section.specs.declared.Section.{Section}
 use Rattle.section.specs.Accepted.{Accepted}
@@ -22,42 +22,42 @@ use Rattle.law.specs.Stress.{Stress, signed, size, rounded}
 use Rattle.law.proofs.Ranges.{law-in}
 use Rattle.law.proofs.Continuous.{either, compressed-proper, stretched-proper, bar-proper}
 use Rattle.strips.specs.Strips.{Scale, middle, strip}
-use Rattle.balance.specs.Forces.{widthAt, depthAt, areaAt, area, loadOf, strainScale, stripStress, barStress, stripForce, barForce, stripMoment, barMoment, forces, moments, imbalance, moment}
-use Rattle.balance.specs.Exact.{stripDen, barDen, commonOf, exactOver, common, exactImbalance, exactMoment, ClearlyAbove, ClearlyBelow}
+use Rattle.balance.specs.Forces.{widthAt, depthAt, areaAt, loadOf, strainScale, stripStress, barStress, stripForce, barForce, stripMoment, barMoment, forces, moments, imbalance, moment}
 
--- ---- a stress over a denominator that its own divides
-signed-within : (C e t : ℕ) (pulls : Bool) → C * t ≤ e → e < C * t + C → Within C (signed pulls e) (signed pulls t) 1
-signed-within C e t true low high = within-neg (within-floor C e t low high)
-signed-within C e t false low high = within-floor C e t low high
+-- ---- a stress over any denominator C: its numerator n is such that den n is C num, sign included
+none-left : (d n : ℕ) → 0 < d → d * n ≡ 0 → n ≡ 0
+none-left d n proper e = omega (arith, NatL.mul-le-mul-right n proper)
 
-stress-within : (C : ℕ) (t : Stress) → 0 < C → t .den ∣ C → Within C (exactOver C t) (rounded t) 1
-unfolding exactOver rounded size
-stress-within C t some v =
-    let k : ℕ = C / t .den in
-    let den : 0 < t .den = NatL.pos-of-dvd-of-pos v some in
-    let whole : k * t .den ≡ C = NatL.div-mul-cancel (t .den) v in
-    let one : 1 ≤ k = NatL.le-div-iff-mul-le den .1 (omega (arith, NatL.le-of-dvd some v)) in
-    let all = ap (λ n. n * (t .num / t .den)) whole in
-    signed-within C (t .num * k) (t .num / t .den) (t .pulls) (omega (arith, NatL.mul-le-mul-right k (NatL.div-mul-le-self (t .num) (t .den))))
-    (omega (arith, NatL.mul-le-mul-right k (NatL.lt-div-mul-add {a = t .num} den)))
+size-within : (C d a : ℕ) (n : ℤ) → 0 < C → 0 < d → pos d *ℤ n ≡ pos C *ℤ pos a → Within C n (pos (a / d)) 1
+size-within C d a n some proper is =
+    let all : d * up n ≡ C * a = omega (arith, ap up is, up-scale d n) in
+    let none : dn n ≡ 0 = none-left d (dn n) proper (omega (arith, ap dn is, dn-scale d n)) in
+    let low : d * (C * (a / d)) ≤ d * up n = omega (arith, all, NatL.mul-le-mul-left C (NatL.div-mul-le-self a d)) in
+    let high : d * up n < d * (C * (a / d) + C) = omega (arith, all, NatL.mul-le-mul-left C (NatL.lt-div-mul-add {a = a} proper), NatL.mul-suc C a) in
+    rw (same n (pos (up n)) (omega arith)) (within-floor C (up n) (a / d) (NatL.le-of-mul-le-mul-left low proper) (NatL.lt-of-mul-lt-mul-left d high))
+
+signed-within : (C d a : ℕ) (pulls : Bool) (n : ℤ) → 0 < C → 0 < d → pos d *ℤ n ≡ pos C *ℤ signed pulls a → Within C n (signed pulls (a / d)) 1
+signed-within C d a false n some proper is = size-within C d a n some proper is
+signed-within C d a true n some proper is =
+    let back : pos d *ℤ negℤ n ≡ pos C *ℤ pos a = mul-neg (pos d) n ∙ ap negℤ is ∙ ap negℤ (mul-neg (pos C) (pos a)) ∙ negℤ-negℤ (pos C *ℤ pos a) in
+    rw (negℤ-negℤ n) at (within-neg (size-within C d a (negℤ n) some proper back))
+
+stress-within : (C : ℕ) (t : Stress) (n : ℤ) → 0 < C → 0 < t .den → pos (t .den) *ℤ n ≡ pos C *ℤ signed (t .pulls) (t .num) → Within C n (rounded t) 1
+unfolding rounded size
+stress-within C t n = signed-within C (t .den) (t .num) (t .pulls) n
 
 -- ---- the forces of n stresses on areas, and their moments, whatever they are
-module _ {C : ℕ} (some : 0 < C) (n : ℕ) (t : ℕ → Stress) (w : ℕ → ℕ) (divides : (i : ℕ) → i < n → t i .den ∣ C) where
-  abbrev force : (Stress → ℤ) → ℕ → ℤ
-  force read i = pos (w i) *ℤ read (t i)
+module _ {C : ℕ} (some : 0 < C) (n : ℕ) (t : ℕ → Stress) (e : ℕ → ℤ) (w : ℕ → ℕ) (near : (i : ℕ) → i < n → Within C (e i) (rounded (t i)) 1) where
+  force-within : (i : ℕ) → i < n → Within C (pos (w i) *ℤ e i) (pos (w i) *ℤ rounded (t i)) (w i * 1)
+  force-within i h = within-scale (near i h) (pos (w i))
 
-  abbrev turned : ℕ → (ℕ → ℕ) → (Stress → ℤ) → ℕ → ℤ
-  turned H place read i = (pos H -ℤ pos (place i)) *ℤ force read i
-
-  force-within : (i : ℕ) → i < n → Within C (force (exactOver C) i) (force rounded i) (w i * 1)
-  force-within i h = within-scale (stress-within C (t i) some (divides i h)) (pos (w i))
-
-  forces-within : Within C (sumZ n (force (exactOver C))) (sumZ n (force rounded)) (sumN n w * 1)
+  forces-within : Within C (sumZ n (λ i. pos (w i) *ℤ e i)) (sumZ n (λ i. pos (w i) *ℤ rounded (t i))) (sumN n w * 1)
   forces-within = within-sum n C 1 _ _ w force-within
 
   moments-within :
       (H : ℕ) (place : ℕ → ℕ)
-      → ((i : ℕ) → i < n → place i ≤ 2 * H) → Within C (sumZ n (turned H place (exactOver C))) (sumZ n (turned H place rounded)) (sumN n w * H)
+      → ((i : ℕ) → i < n → place i ≤ 2 * H)
+      → Within C (sumZ n (λ i. (pos H -ℤ pos (place i)) *ℤ (pos (w i) *ℤ e i))) (sumZ n (λ i. (pos H -ℤ pos (place i)) *ℤ (pos (w i) *ℤ rounded (t i)))) (sumN n w * H)
   moments-within H place inside =
       within-sum n C H _ _ w
       (λ i h. within-wider (within-scale (force-within i h) (pos H -ℤ pos (place i))) some (omega (arith, NatL.mul-le-mul-right (w i) (lever-most H (place i) (inside i h)))))
@@ -71,64 +71,67 @@ scale-proper : (s : Section) (x : ℕ) → 1 ≤ x → 0 < strainScale s x .den
 unfolding strainScale edition
 scale-proper s x from = whichever (ltb (27 * x) (7 * limitDepth s)) _ _ (λ e. omega (arith, ltb-true)) (λ e. omega arith)
 
--- ---- at one depth
-module _ (l : Law) (s : Section) (x : ℕ) where
-  pub strip-divides : (i : ℕ) → i < s .h → stripDen l s x i ∣ commonOf l s x
-  unfolding commonOf
-  strip-divides i h = NatL.dvd-mul-right-of-dvd _ (factor-divides (s .h) (stripDen l s x) i h) _
-
-  pub bar-divides : (j : ℕ) → j < s .count → barDen l s x j ∣ commonOf l s x
-  unfolding commonOf
-  bar-divides j h = NatL.dvd-mul-left-of-dvd _ (factor-divides (s .count) (barDen l s x) j h) _
-
-  strip-proper : Lawful l → 1 ≤ x → (i : ℕ) → i < s .h → 0 < stripDen l s x i
+module _ (l : Law) (s : Section) (x : ℕ) (from : 1 ≤ x) where
+  pub strip-proper : Lawful l → (i : ℕ) → 0 < stripStress l s x i .den
   unfolding strip
-  strip-proper lines from i h = either (leb x i) _ _ (stretched-proper l _ _ (scale-proper s x from) lines) (compressed-proper l _ _ (scale-proper s x from))
+  strip-proper lines i = either (leb x i) _ _ (stretched-proper l _ _ (scale-proper s x from) lines) (compressed-proper l _ _ (scale-proper s x from))
 
-  pub common-proper : Lawful l → 1 ≤ x → 0 < commonOf l s x
-  unfolding commonOf
-  common-proper lines from =
-      NatL.mul-pos (prod-positive (s .h) (stripDen l s x) (strip-proper lines from))
-      (prod-positive (s .count) (barDen l s x) (λ j h. bar-proper l _ _ (scale-proper s x from) _))
+  pub bar-at-proper : (j : ℕ) → 0 < barStress l s x j .den
+  bar-at-proper j = bar-proper l _ _ (scale-proper s x from) _
 
-  module _ (some : 0 < commonOf l s x) where
-    pub forces-close :
-        Within (commonOf l s x) (forces (exactOver (commonOf l s x)) l s x -ℤ (pos (commonOf l s x) *ℤ loadOf s)) (forces rounded l s x -ℤ loadOf s) (area s)
-    unfolding forces stripForce barForce area
-    forces-close =
-        let strips = forces-within some (s .h) (stripStress l s x) (widthAt s) strip-divides in
-        let bars = forces-within some (s .count) (barStress l s x) (areaAt s) bar-divides in
-        within-wider (within-add (within-add strips bars) (within-neg (within-exact (commonOf l s x) (loadOf s)))) some (omega arith)
+-- ---- at one depth of an accepted section
+abbrev area : Section → ℕ
+area s = sumN (s .h) (widthAt s) + sumN (s .count) (areaAt s)
 
-    pub moments-close :
-        ((j : ℕ) → j < s .count → depthAt s j ≤ s .h)
-        → Within (commonOf l s x) (moments (exactOver (commonOf l s x)) l s x) (moments rounded l s x) (area s * s .h)
-    unfolding moments stripMoment barMoment stripForce barForce area
-    moments-close inside =
-        let strips = moments-within some (s .h) (stripStress l s x) (widthAt s) strip-divides (s .h) middle (λ i h. omega arith) in
-        let bars = moments-within some (s .count) (barStress l s x) (areaAt s) bar-divides (s .h) (λ j. 2 * depthAt s j) (λ j h. omega (arith, inside j h)) in
-        within-wider (within-add strips bars) some (omega arith)
+pub area-positive : {s : Section} → Accepted s → 0 < area s
+area-positive {s} a = omega (arith, sum-positive (s .h) (widthAt s) (omega (arith, a .sizes .1 .0)) (λ i h. omega (arith, a .sizes .0 .0)))
 
--- ---- of an accepted section
-module _ {s : Section} (a : Accepted s) where
-  pub area-positive : 0 < area s
-  unfolding area
-  area-positive = omega (arith, sum-positive (s .h) (widthAt s) (omega (arith, a .sizes .1 .0)) (λ i h. omega (arith, a .sizes .0 .0)))
+-- n is the numerator of a stress over C
+abbrev pub Over : ℕ → ℤ → Stress → Type 0
+Over C n t = pos (t .den) *ℤ n ≡ pos C *ℤ signed (t .pulls) (t .num)
 
-  module _ {x : ℕ} (from : 1 ≤ x) where
-    pub common-positive : 0 < common s x
-    common-positive = common-proper (lawOf s) s x (law-in a .lines) from
+-- over any C, and of any numerators that are the stresses over it
+module _ {s : Section} (a : Accepted s) {x C : ℕ} (from : 1 ≤ x) (some : 0 < C) (strip bar : ℕ → ℤ)
+    (strips : (i : ℕ) → i < s .h → Over C (strip i) (stripStress (lawOf s) s x i))
+    (bars : (j : ℕ) → j < s .count → Over C (bar j) (barStress (lawOf s) s x j)) where
+  strip-near : (i : ℕ) → i < s .h → Within C (strip i) (rounded (stripStress (lawOf s) s x i)) 1
+  strip-near i h = stress-within C _ (strip i) some (strip-proper (lawOf s) s x from (law-in a .lines) i) (strips i h)
 
-    pub imbalance-within : Within (common s x) (exactImbalance s x) (imbalance s x) (area s)
-    unfolding exactImbalance imbalance
-    imbalance-within = forces-close (lawOf s) s x common-positive
+  bar-near : (j : ℕ) → j < s .count → Within C (bar j) (rounded (barStress (lawOf s) s x j)) 1
+  bar-near j h = stress-within C _ (bar j) some (bar-at-proper (lawOf s) s x from j) (bars j h)
 
-    pub moment-within : Within (common s x) (exactMoment s x) (moment s x) (area s * s .h)
-    unfolding exactMoment moment
-    moment-within = moments-close (lawOf s) s x common-positive (λ j h. omega (arith, a .bars .0 .each j h .inside))
+  abbrev exactImbalance : ℤ
+  exactImbalance = (sumZ (s .h) (λ i. pos (widthAt s i) *ℤ strip i) +ℤ sumZ (s .count) (λ j. pos (areaAt s j) *ℤ bar j)) -ℤ (pos C *ℤ loadOf s)
 
-    pub above : ClearlyAbove s x → pos 0 <ℤ imbalance s x
-    above = within-above imbalance-within area-positive
+  abbrev exactMoment : ℤ
+  exactMoment =
+      sumZ (s .h) (λ i. (pos (s .h) -ℤ pos (middle i)) *ℤ (pos (widthAt s i) *ℤ strip i))
+      +ℤ sumZ (s .count) (λ j. (pos (s .h) -ℤ pos (2 * depthAt s j)) *ℤ (pos (areaAt s j) *ℤ bar j))
 
-    pub below : ClearlyBelow s x → imbalance s x <ℤ pos 0
-    below = within-below imbalance-within area-positive
+  imbalance-within : Within C exactImbalance (imbalance s x) (area s)
+  unfolding imbalance forces stripForce barForce
+  imbalance-within =
+      let strips = forces-within some (s .h) (stripStress (lawOf s) s x) strip (widthAt s) strip-near in
+      let bars = forces-within some (s .count) (barStress (lawOf s) s x) bar (areaAt s) bar-near in
+      within-wider (within-add (within-add strips bars) (within-neg (within-exact C (loadOf s)))) some (omega arith)
+
+  moment-within : Within C exactMoment (moment s x) (area s * s .h)
+  unfolding moment moments stripMoment barMoment stripForce barForce
+  moment-within =
+      let strips = moments-within some (s .h) (stripStress (lawOf s) s x) strip (widthAt s) strip-near (s .h) middle (λ i h. omega arith) in
+      let bars = moments-within some (s .count) (barStress (lawOf s) s x) bar (areaAt s) bar-near (s .h) (λ j. 2 * depthAt s j) (λ j h. omega (arith, a .bars .0 .each j h .inside)) in
+      within-wider (within-add strips bars) some (omega arith)
+
+  -- the rounded sums lie within one kPa times the area of the exact ones, the moments within that times h
+  pub imbalance-close : natAbs (exactImbalance -ℤ (pos C *ℤ imbalance s x)) < C * area s
+  imbalance-close = omega (arith, imbalance-within .within, area-positive a)
+
+  pub moment-close : natAbs (exactMoment -ℤ (pos C *ℤ moment s x)) ≤ C * (area s * s .h)
+  moment-close = omega (arith, moment-within .within)
+
+  -- where the exact imbalance is clearly on one side of zero, so is the rounded one
+  pub above : pos (C * area s) ≤ℤ exactImbalance → pos 0 <ℤ imbalance s x
+  above = within-above imbalance-within (area-positive a)
+
+  pub below : exactImbalance ≤ℤ negℤ (pos (C * area s)) → imbalance s x <ℤ pos 0
+  below = within-below imbalance-within (area-positive a)

@@ -52,14 +52,14 @@ module _ (s : Section) (l : Law) (a : Axis) (ok : Accepted s) (law : l ≡ lawOf
       strip-rounded l a i pulls (ap small law ∙ small-law ok) e
       ∙ (λ j. rounded (strip (law j) (scale j) (a .x) i))
 
-  side : (i : ℕ) (pulls : Bool) → leb (a .x) i ≡ pulls → stripForce rounded (lawOf s) s (a .x) i ≡ pos (s .b) *ℤ signed pulls (stripSize l pulls a i)
+  side : (i : ℕ) (pulls : Bool) → leb (a .x) i ≡ pulls → stripForce (lawOf s) s (a .x) i ≡ pos (s .b) *ℤ signed pulls (stripSize l pulls a i)
   unfolding stripForce
   side i pulls e = ap (λ z. pos (s .b) *ℤ z) (sym (strip-is i pulls e))
 
   -- the runs above and below the neutral axis
-  pub strips-are : a .x ≤ s .h → pos (s .b) *ℤ (runOf l false a 0 (a .x) +ℤ runOf l true a (a .x) (s .h)) ≡ sumZ (s .h) (stripForce rounded (lawOf s) s (a .x))
+  pub strips-are : a .x ≤ s .h → pos (s .b) *ℤ (runOf l false a 0 (a .x) +ℤ runOf l true a (a .x) (s .h)) ≡ sumZ (s .h) (stripForce (lawOf s) s (a .x))
   strips-are h =
-      let f = stripForce rounded (lawOf s) s (a .x) in
+      let f = stripForce (lawOf s) s (a .x) in
       let push : sumZ (a .x) f ≡ pos (s .b) *ℤ runOf l false a 0 (a .x) =
       run-to f (stripSize l false a) (s .b) 0 (a .x) false (omega arith) (λ i p q. side i false (lt-leb (a .x) i q)) ∙ rw (sum-none f) (+ℤ-idl (pos (s .b) *ℤ runOf l false a 0 (a .x))) in
       let all = run-to f (stripSize l true a) (s .b) (a .x) (s .h) true h (λ i p q. side i true (le-leb (a .x) i p)) in

@@ -1,30 +1,24 @@
--- What is said of the balance of a section: the list, its refusal, and how far what is rounded lies from what is exact. Assumes nothing.
-use Prim.Native.Nat.{ℕ, suc, _+_, _*_, _/_, _≤_, _<_, _∣_}
-use mathlib.Core.Path.{_≡_, refl, sym, ap, _∙_}
+-- What is said of the balance of a section: the list, and its refusal. Assumes nothing.
+use Prim.Native.Nat.{ℕ, suc, _+_, _*_, _≤_, _<_}
+use mathlib.Core.Path.{_≡_, refl, ap}
 use mathlib.Core.Bool.{Bool, true, false, false≢true}
 use mathlib.Core.Logic.{_⊎_, ⊎-elim, _↔_, Iff·trans}
 use mathlib.Core.List.{List, [], _∷_, List·Memᴰ, List·Memᴰ·head, List·Memᴰ·not-nil, Memᴰ·cast}
-use native.Mathlib.Nat as NatL
 use native.Mathlib.Omega.{arith}
 use lib.Dec.{ltb, leb}
 use lib.IntN.{pos}
 use lib.ListN.{length}
+use lib.Signed.{_<ℤ_}
 use borrow.Author.Tests.{lt-ltb}
 use Rattle.arith.proofs.Tests.{Decides}
 use Rattle.section.specs.declared.Section.{Section}
 use Rattle.section.specs.Refusal.{line, firstOf, sectionRefusal}
 use Rattle.section.proofs.Accepted.{accepted}
-use Rattle.law.specs.Law.{lawOf}
-use Rattle.law.specs.Stress.{Stress, signed}
-use Rattle.law.proofs.Sides.{signed-scale}
-use Rattle.balance.specs.Forces.{area, stripStress, barStress, imbalance, moment}
+use Rattle.balance.specs.Forces.{imbalance, moment}
 use Rattle.balance.specs.Depths.{Entry, kindAt, lastDepth, listed, Balances, SomeDepth, NoDepth, Rising}
-use Rattle.balance.specs.Exact.{exactOver, SameOver, common, ClearlyChanges, ImbalanceNear, MomentNear}
 use Rattle.balance.specs.Answers.{depthsRefusal, listRefusal}
 use Rattle.balance.proofs.Listed.{list-only, list-all, list-rising, list-empty, empty-list}
 use Rattle.balance.proofs.Signs.{falls, rises, kind-one, kind-two}
-use Rattle.balance.proofs.Rounded.{strip-divides, bar-divides, area-positive, imbalance-within, moment-within, above, below}
-use Rattle.balance.proofs.Rounded as Rounded
 
 -- ---- 1. the list has exactly the depths that balance, in strictly ascending order, and is refused as empty exactly where there is none
 pub listed-exactly : (s : Section) (e : Entry) → List·Memᴰ e (listed s) ↔ Balances s e
@@ -66,43 +60,17 @@ pub fourteen-exactly : (s : Section) (room : ℕ) → sectionRefusal s ≡ 0 →
 unfolding listRefusal depthsRefusal
 fourteen-exactly s room ok = rw ok (Iff·trans (fourteen-where-empty (listed s) _ (not-fourteen (leb (3 * length (listed s)) room))) (none-listed s))
 
--- ---- 2. the rounded sums lie within one kPa times the area of the exact ones, the moments within that times h
-pub imbalance-close : (s : Section) (x : ℕ) → sectionRefusal s ≡ 0 → 1 ≤ x → ImbalanceNear s x (imbalance s x)
-imbalance-close s x ok from = let a = accepted s ok in omega (arith, imbalance-within a from .within, area-positive a)
-
-pub moment-close : (s : Section) (x : ℕ) → sectionRefusal s ≡ 0 → 1 ≤ x → MomentNear s x (moment s x)
-moment-close s x ok from = omega (arith, moment-within (accepted s ok) from .within)
-
--- they have a denominator, and over it each stress is the fraction that it is
-pub common-positive : (s : Section) (x : ℕ) → sectionRefusal s ≡ 0 → 1 ≤ x → 0 < common s x
-common-positive s x ok from = Rounded.common-positive (accepted s ok) from
-
-pub exact-same : (C : ℕ) (t : Stress) → t .den ∣ C → SameOver C t
-unfolding exactOver
-exact-same C t v =
-    let same : t .den * (t .num * (C / t .den)) ≡ C * t .num = omega (arith, ap (λ n. t .num * n) (NatL.mul-div-cancel' (t .den) v)) in
-    signed-scale (t .den) _ (t .pulls) ∙ ap (signed (t .pulls)) same ∙ sym (signed-scale C (t .num) (t .pulls))
-
-pub strip-exact : (s : Section) (x i : ℕ) → i < s .h → SameOver (common s x) (stripStress (lawOf s) s x i)
-strip-exact s x i h = exact-same (common s x) _ (strip-divides (lawOf s) s x i h)
-
-pub bar-exact : (s : Section) (x j : ℕ) → j < s .count → SameOver (common s x) (barStress (lawOf s) s x j)
-bar-exact s x j h = exact-same (common s x) _ (bar-divides (lawOf s) s x j h)
-
--- ---- 3. a depth whose exact imbalance is clearly on one side of zero, and the next one's on the other, is listed
+-- ---- 2. a depth whose imbalance is on one side of zero, and the next one's on the other, is listed
 listed-as : (s : Section) (x kind : ℕ) → 1 ≤ x → x ≤ lastDepth s → kindAt s x ≡ suc kind → List·Memᴰ (record { depth = x; kind = suc kind; moment = moment s x }) (listed s)
 listed-as s x kind from to e = rw e at (list-all (kindAt s) (moment s) (lastDepth s) x from to (omega arith))
 
 pub pair-listed :
-    (s : Section) (x : ℕ) → sectionRefusal s ≡ 0 → 1 ≤ x → x < lastDepth s → ClearlyChanges s x
+    (s : Section) (x : ℕ) → 1 ≤ x → x < lastDepth s
+    → ((pos 0 <ℤ imbalance s x) × (imbalance s (x + 1) <ℤ pos 0)) ⊎ ((imbalance s x <ℤ pos 0) × (pos 0 <ℤ imbalance s (x + 1)))
     → List·Memᴰ (record { depth = x; kind = 2; moment = moment s x }) (listed s)
-pair-listed s x ok from to k =
-    let a = accepted s ok in
-    let next : 1 ≤ x + 1 = omega arith in
-    let two = kind-two s x to (⊎-elim (λ p. falls (above a from (p .0)) (below a next (p .1))) (λ p. rises (below a from (p .0)) (above a next (p .1))) k) in
-    listed-as s x 1 from (omega arith) two
+pair-listed s x from to k = listed-as s x 1 from (omega arith) (kind-two s x to (⊎-elim (λ p. falls (p .0) (p .1)) (λ p. rises (p .0) (p .1)) k))
 
--- ---- 4. a depth whose imbalance is zero is listed, the last depth too
+-- ---- 3. a depth whose imbalance is zero is listed, the last depth too
 pub zero-listed :
     (s : Section) (x : ℕ) → 1 ≤ x → x ≤ lastDepth s → imbalance s x ≡ pos 0
     → List·Memᴰ (record { depth = x; kind = 1; moment = moment s x }) (listed s)

@@ -7,7 +7,6 @@ use lib.ListN.{getD}
 use Rattle.arith.specs.Sums.{sumZ}
 use Rattle.section.specs.declared.Section.{Section}
 use Rattle.law.specs.Law.{lawOf}
-use Rattle.law.specs.Stress.{rounded}
 use Rattle.balance.specs.Forces.{barForce, barMoment, imbalance}
 
 -- no force of a strip or a layer is larger than the largest area at the largest fyd, and no lever is longer than the height
@@ -19,9 +18,9 @@ mostMoment = 1000 * mostForce
 
 -- the sums over the bars
 pub record BarSums (s : Section) (x : ℕ) (force moment : ℤ) : Type 0 where
-  pub forces : force ≡ sumZ (s .count) (barForce rounded (lawOf s) s x)
+  pub forces : force ≡ sumZ (s .count) (barForce (lawOf s) s x)
   pub force-most : natAbs force ≤ mostForce * 8
-  pub moments : moment ≡ sumZ (s .count) (barMoment rounded (lawOf s) s x)
+  pub moments : moment ≡ sumZ (s .count) (barMoment (lawOf s) s x)
   pub moment-most : natAbs moment ≤ mostMoment * 8
 
 -- the imbalances at depths 1 to n are kept

@@ -28,10 +28,6 @@ areaAt s j = layerAt (s .layers) j .area
 abbrev pub concreteArea : Section → ℕ
 concreteArea s = sumN (s .h) (widthAt s)
 
--- the area of concrete and bars
-unfoldable pub area : Section → ℕ
-area s = concreteArea s + sumN (s .count) (areaAt s)
-
 -- the axial load, in mN
 abbrev pub loadOf : Section → ℤ
 loadOf s = pos 1000 *ℤ s .load
@@ -55,32 +51,32 @@ barAt l k x y = bar l (ltb x y) (k .num * (2 * ((x - y) + (y - x)))) (k .den)
 abbrev pub barStress : Law → Section → ℕ → ℕ → Stress
 barStress l s x j = barAt l (strainScale s x) x (depthAt s j)
 
--- ---- forces, and each times twice its distance above mid-height; `read` reads a stress: rounded, or exact over a common denominator
+-- ---- forces, by rounded stresses, and each times twice its distance above mid-height
 abbrev pub lever : Section → ℕ → ℤ
 lever s position = pos (s .h) -ℤ pos position
 
-unfoldable pub stripForce : (Stress → ℤ) → Law → Section → ℕ → ℕ → ℤ
-stripForce read l s x i = pos (widthAt s i) *ℤ read (stripStress l s x i)
+unfoldable pub stripForce : Law → Section → ℕ → ℕ → ℤ
+stripForce l s x i = pos (widthAt s i) *ℤ rounded (stripStress l s x i)
 
-unfoldable pub barForce : (Stress → ℤ) → Law → Section → ℕ → ℕ → ℤ
-barForce read l s x j = pos (areaAt s j) *ℤ read (barStress l s x j)
+unfoldable pub barForce : Law → Section → ℕ → ℕ → ℤ
+barForce l s x j = pos (areaAt s j) *ℤ rounded (barStress l s x j)
 
-unfoldable pub stripMoment : (Stress → ℤ) → Law → Section → ℕ → ℕ → ℤ
-stripMoment read l s x i = lever s (middle i) *ℤ stripForce read l s x i
+unfoldable pub stripMoment : Law → Section → ℕ → ℕ → ℤ
+stripMoment l s x i = lever s (middle i) *ℤ stripForce l s x i
 
-unfoldable pub barMoment : (Stress → ℤ) → Law → Section → ℕ → ℕ → ℤ
-barMoment read l s x j = lever s (2 * depthAt s j) *ℤ barForce read l s x j
+unfoldable pub barMoment : Law → Section → ℕ → ℕ → ℤ
+barMoment l s x j = lever s (2 * depthAt s j) *ℤ barForce l s x j
 
 -- compression forces minus tension forces; bars add their whole force, the concrete in their place is not taken off
-unfoldable pub forces : (Stress → ℤ) → Law → Section → ℕ → ℤ
-forces read l s x = sumZ (s .h) (stripForce read l s x) +ℤ sumZ (s .count) (barForce read l s x)
+unfoldable pub forces : Law → Section → ℕ → ℤ
+forces l s x = sumZ (s .h) (stripForce l s x) +ℤ sumZ (s .count) (barForce l s x)
 
-unfoldable pub moments : (Stress → ℤ) → Law → Section → ℕ → ℤ
-moments read l s x = sumZ (s .h) (stripMoment read l s x) +ℤ sumZ (s .count) (barMoment read l s x)
+unfoldable pub moments : Law → Section → ℕ → ℤ
+moments l s x = sumZ (s .h) (stripMoment l s x) +ℤ sumZ (s .count) (barMoment l s x)
 
 -- ---- the sums of a section at a depth
 unfoldable pub imbalance : Section → ℕ → ℤ
-imbalance s x = forces rounded (lawOf s) s x -ℤ loadOf s
+imbalance s x = forces (lawOf s) s x -ℤ loadOf s
 
 unfoldable pub moment : Section → ℕ → ℤ
-moment s x = moments rounded (lawOf s) s x
+moment s x = moments (lawOf s) s x

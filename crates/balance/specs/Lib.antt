@@ -1,6 +1,5 @@
 pub mod Forces
 pub mod Depths
 pub mod Row
-pub mod Exact
 pub mod Answers
 pub mod Code

@@ -37,11 +37,11 @@ struct Sums {
 }
 
 // The neutral axis at a depth, with its strains.
-fn axis_at(section: Section, x: u16) -> Axis
-    requires { ⌜ (Accepted section) × (0 < x) × (x ≤ lastDepth section) ⌝ }
+fn axis_at(section: Section, law: Law, x: u16) -> Axis
+    requires { ⌜ (Accepted section) × (law ≡ lawOf section) × (0 < x) × (x ≤ lastDepth section) ⌝ }
     ensures { λ r. ⌜ (r .x ≡ x) × (scaleOf r ≡ strainScale section (r .x)) ⌝ }
 {
-    let limit = law::limit_depth(section) as u16;
+    let limit = law.limit as u16;
     if 27 * (x as u32) < 7 * (limit as u32) {
         return Axis {
             x: x,
@@ -111,7 +111,7 @@ fn bars(section: Section, law: Law, axis: Axis) -> Sums
 
 fn strips_moment(section: Section, law: Law, axis: Axis) -> i64
     requires { ⌜ (Accepted section) × (law ≡ lawOf section) × (scaleOf axis ≡ strainScale section (axis .x)) ⌝ }
-    ensures { λ r. ⌜ (r ≡ sumZ (section .h) (stripMoment rounded (lawOf section) section (axis .x))) × (natAbs r ≤ mostMoment * 1000) ⌝ }
+    ensures { λ r. ⌜ (r ≡ sumZ (section .h) (stripMoment (lawOf section) section (axis .x))) × (natAbs r ≤ mostMoment * 1000) ⌝ }
 {
     let h = section.h;
     let mut moment: i64 = 0;
@@ -124,7 +124,7 @@ fn strips_moment(section: Section, law: Law, axis: Axis) -> i64
 
 fn strips_force(section: Section, law: Law, axis: Axis) -> i64
     requires { ⌜ (Accepted section) × (law ≡ lawOf section) × (scaleOf axis ≡ strainScale section (axis .x)) × (axis .x ≤ section .h) ⌝ }
-    ensures { λ r. ⌜ (r ≡ sumZ (section .h) (stripForce rounded (lawOf section) section (axis .x))) × (natAbs r ≤ 2000 * (65536 * 2000)) ⌝ }
+    ensures { λ r. ⌜ (r ≡ sumZ (section .h) (stripForce (lawOf section) section (axis .x))) × (natAbs r ≤ 2000 * (65536 * 2000)) ⌝ }
 {
     let push = strips::compressed(law, axis, 0, axis.x);
     let pull = strips::stretched(law, axis, axis.x, section.h);
@@ -135,7 +135,7 @@ fn imbalance_at(section: Section, law: Law, x: u16) -> i64
     requires { ⌜ (Accepted section) × (law ≡ lawOf section) × (0 < x) × (x ≤ lastDepth section) ⌝ }
     ensures { λ r. ⌜ r ≡ imbalance section x ⌝ }
 {
-    let axis = axis_at(section, x);
+    let axis = axis_at(section, law, x);
     let bars = bars(section, law, axis);
     strips_force(section, law, axis) + bars.force - 1000 * (section.load as i64)
 }
@@ -144,7 +144,7 @@ fn moment_at(section: Section, law: Law, x: u16) -> i64
     requires { ⌜ (Accepted section) × (law ≡ lawOf section) × (0 < x) × (x ≤ lastDepth section) ⌝ }
     ensures { λ r. ⌜ r ≡ moment section x ⌝ }
 {
-    let axis = axis_at(section, x);
+    let axis = axis_at(section, law, x);
     let bars = bars(section, law, axis);
     strips_moment(section, law, axis) + bars.moment
 }

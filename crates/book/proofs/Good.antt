@@ -12,7 +12,7 @@ use Rattle.arith.proofs.Tests.{both, all-below, below-all, Decides, is-less, is
 use Rattle.section.specs.Refusal.{line}
 use Rattle.section.proofs.Lines.{passes, none-of, between}
 use Rattle.book.specs.Record.{le16At, layersAt, sizeAt, recordRight, recordRefusal}
-use Rattle.book.specs.Book.{indexOf, countOf, statedLength, letterOf, startOf, endOf, lengthRight, lettersRight, indexRight, endsRight, recordsRight, bookRefusal, askedRefusal}
+use Rattle.book.specs.Book.{indexOf, countOf, statedLength, byteFromEnd, startOf, endOf, lengthRight, lettersRight, indexRight, endsRight, recordsRight, bookRefusal, askedRefusal}
 use Rattle.book.specs.Good.{LengthStands, LettersStand, IndexStands, StandsIn, RecordsStand, GoodBook, StandsAlone}
 
 -- a lone record
@@ -35,7 +35,7 @@ module _ (s : List ℕ) where
   pub letters-stand : Decides (lettersRight s) (LettersStand s)
   unfolding lettersRight
   letters-stand =
-      Iff·trans (is-both (is-both (is-both (is-same (letterOf s 4) 66) (is-same (letterOf s 3) 79)) (is-same (letterOf s 2) 79)) (is-same (letterOf s 1) 75))
+      Iff·trans (is-both (is-both (is-both (is-same (byteFromEnd s 4) 66) (is-same (byteFromEnd s 3) 79)) (is-same (byteFromEnd s 2) 79)) (is-same (byteFromEnd s 1) 75))
       (λ p. (p .0 .0 .0, p .0 .0 .1, p .0 .1, p .1), λ p. (((p .0, p .1), p .2), p .3))
 
   pub index-stands : Decides (indexRight s) (IndexStands s)

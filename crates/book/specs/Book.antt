@@ -21,8 +21,8 @@ countOf s = le32At s (length s - 12)
 abbrev pub statedLength : List ℕ → ℕ
 statedLength s = le32At s (length s - 8)
 
-abbrev pub letterOf : List ℕ → ℕ → ℕ
-letterOf s back = getD s (length s - back) 0
+abbrev pub byteFromEnd : List ℕ → ℕ → ℕ
+byteFromEnd s back = getD s (length s - back) 0
 
 -- ---- the records, one after another
 -- where record i starts or, after the last, the index
@@ -40,7 +40,7 @@ lengthRight s = within 16 65536 (length s) && eqb (statedLength s) (length s)
 
 -- 2: the last four bytes are BOOK: 66, 79, 79, 75
 unfoldable pub lettersRight : List ℕ → Bool
-lettersRight s = eqb (letterOf s 4) 66 && eqb (letterOf s 3) 79 && eqb (letterOf s 2) 79 && eqb (letterOf s 1) 75
+lettersRight s = eqb (byteFromEnd s 4) 66 && eqb (byteFromEnd s 3) 79 && eqb (byteFromEnd s 2) 79 && eqb (byteFromEnd s 1) 75
 
 -- 3: index place + 4n + 16 is the length
 unfoldable pub indexRight : List ℕ → Bool

@@ -5,7 +5,7 @@ use mathlib.Core.List.{List}
 use lib.ListN.{length, getD}
 use Rattle.section.specs.Accepted.{Between}
 use Rattle.book.specs.Record.{le16At, layersAt, sizeAt}
-use Rattle.book.specs.Book.{indexOf, countOf, statedLength, letterOf, startOf, endOf}
+use Rattle.book.specs.Book.{indexOf, countOf, statedLength, byteFromEnd, startOf, endOf}
 
 -- 1: of 16 to 65,536 bytes, and of its stated length
 abbrev pub LengthStands : List ℕ → Type 0
@@ -13,7 +13,7 @@ LengthStands s = Between 16 65536 (length s) × (statedLength s ≡ length s)
 
 -- 2: the last four bytes are BOOK
 abbrev pub LettersStand : List ℕ → Type 0
-LettersStand s = (letterOf s 4 ≡ 66) × (letterOf s 3 ≡ 79) × (letterOf s 2 ≡ 79) × (letterOf s 1 ≡ 75)
+LettersStand s = (byteFromEnd s 4 ≡ 66) × (byteFromEnd s 3 ≡ 79) × (byteFromEnd s 2 ≡ 79) × (byteFromEnd s 1 ≡ 75)
 
 -- 3: index place + 4n + 16 is the length
 abbrev pub IndexStands : List ℕ → Type 0

@@ -12,7 +12,7 @@ use lib.Seq.{drop-cons}
 use borrow.Author.Tests.{leb-true, le-leb, lt-leb}
 use Rattle.arith.specs.Below.{allBelow}
 use Rattle.arith.proofs.Tests.{all-below}
-use Rattle.class.specs.Class.{ladder, largest, stepOf}
+use Rattle.class.specs.Class.{ladder, largestStep, stepOf}
 
 -- the table's rule: no rung is above the next
 rises : (i : ℕ) → i < 11 → getD ladder i 0 ≤ getD ladder (i + 1) 0
@@ -26,8 +26,8 @@ capped s f = pick (leb s f) refl
     pick true e = leb-true s f e
     pick false e = omega arith
 
-within : (ss : List ℕ) (f : ℕ) → largest ss f ≤ f
-unfolding largest
+within : (ss : List ℕ) (f : ℕ) → largestStep ss f ≤ f
+unfolding largestStep
 within [] f = omega arith
 within (s ∷ ss) f = max-le (capped s f) (within ss f)
 
@@ -37,7 +37,7 @@ step-within f = within ladder f
 
 -- at rung i the answer is the better of the step so far and of the rungs from i on
 pub record Climb (f step i : ℕ) : Type 0 where
-  pub best : stepOf f ≡ max step (largest (drop i ladder) f)
+  pub best : stepOf f ≡ max step (largestStep (drop i ladder) f)
   pub low : i < 12 → step ≤ getD ladder i 0
 
 pub start : (f : ℕ) → Climb f 0 0
@@ -45,7 +45,7 @@ unfolding stepOf
 start f = record { best = omega arith; low = λ h. omega arith }
 
 pub done : {f step : ℕ} → Climb f step 12 → (step ≡ stepOf f) × (step ≤ f)
-unfolding ladder largest
+unfolding ladder largestStep
 done {f} {step} k = let e : step ≡ stepOf f = omega (arith, k .best) in (e, rw e (step-within f))
 
 module _ (f step i : ℕ) (h : i < 12) (k : Climb f step i) where
@@ -53,8 +53,8 @@ module _ (f step i : ℕ) (h : i < 12) (k : Climb f step i) where
   unfolding ladder
   rest = rw (add-one i) (drop-cons ladder i 0 (omega arith))
 
-  at-rung : stepOf f ≡ max step (max (cond (leb (getD ladder i 0) f) (getD ladder i 0) 0) (largest (drop (i + 1) ladder) f))
-  unfolding largest
+  at-rung : stepOf f ≡ max step (max (cond (leb (getD ladder i 0) f) (getD ladder i 0) 0) (largestStep (drop (i + 1) ladder) f))
+  unfolding largestStep
   at-rung = rw rest at (k .best)
 
   pub stays : f < getD ladder i 0 → Climb f step (i + 1)

@@ -11,12 +11,12 @@ unfoldable pub ladder : List ℕ
 ladder = 1000 ∷ 1500 ∷ 2000 ∷ 2500 ∷ 3000 ∷ 3500 ∷ 4000 ∷ 4500 ∷ 5000 ∷ 6000 ∷ 7000 ∷ 8000 ∷ []
 
 -- the largest of a list that is at most f, or 0 where none is
-unfoldable pub largest : List ℕ → ℕ → ℕ
-largest [] f = 0
-largest (s ∷ ss) f = max (cond (leb s f) s 0) (largest ss f)
+unfoldable pub largestStep : List ℕ → ℕ → ℕ
+largestStep [] f = 0
+largestStep (s ∷ ss) f = max (cond (leb s f) s 0) (largestStep ss f)
 
 unfoldable pub stepOf : ℕ → ℕ
-stepOf fr1 = largest ladder fr1
+stepOf fr1 = largestStep ladder fr1
 
 -- a letter as its byte
 abbrev pub letter-a : ℕ

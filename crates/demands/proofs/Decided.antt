@@ -6,8 +6,6 @@ pub decided : Decided
 decided = record {
   section-refusal = λ κs a x y e f p q. p ∙ sym q;
   with-layer = λ κs a x y e f p q. p ∙ sym q;
-  limit-depth = λ κs a x y e f p q. p ∙ sym q;
-  effective-depth = λ κs a x y e f p q. p ∙ sym q;
   law-of = λ κs a x y e f p q. p ∙ sym q;
   concrete-size = λ κs a x y e f p q. p ∙ sym q;
   bar-size = λ κs a x y e f p q. p ∙ sym q;

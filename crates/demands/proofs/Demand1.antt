@@ -38,6 +38,7 @@ use Rattle.class.specs.Class as Class
 use Rattle.panel.specs.Face.{drawnOf, imbalanceOf, momentOf, listOf, rowOf, shearOf}
 use Rattle.demands.specs.Table.{Line, First, bookLines, askedLines, loneLines, sectionLines, layerLines, depthsLines, shearLines, classLines, strainLines, gridLines}
 use Rattle.demands.specs.Demand1.{Refuses, RefusesList, Demand1}
+use Rattle.demands.proofs.Free.{free}
 use Rattle.demands.proofs.Shapes.{sections, laws, points, amounts, listings, books, places, records, classes, alone, of-record}
 use Rattle.demands.proofs.Table.{exactly, first-most, book-first, asked-first, lone-first, section-first, layer-first, list-first}
 use Rattle.demands.proofs.Table.{shear-first, class-first, strain-first, grid-first, not-fifteen}
@@ -115,7 +116,7 @@ module _ (r : List ℕ) (before : List ℤ) where
 pub demand1 : Demand1
 unfolding drawnOf imbalanceOf momentOf shearOf
 demand1 = record {
-  free = λ c. c .free;
+  free = free;
   section-refusal = λ κs a x e p. rw p (exactly _ _ (section-first (a .0)));
   with-layer = λ κs a x e p. layer-refuses (a .0) _ p;
   law-of = λ κs a x e p. law-refuses (a .0) p;

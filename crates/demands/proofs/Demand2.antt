@@ -120,8 +120,6 @@ unfolding drawnOf imbalanceOf momentOf shearOf
 demand2 = record {
   section-refusal = λ κs a x e p. rw p (accepted-exactly (a .0));
   with-layer = λ κs a x e p. layer-is (a .0) _ p;
-  limit-depth = λ κs a x e p. p;
-  effective-depth = λ κs a x e p. p;
   law-of = λ κs a x e p. law-is (a .0) p;
   concrete-size = λ κs a x e p. p;
   bar-size = λ κs a x e p. p;

@@ -1,29 +1,70 @@
 -- Demand 3, by the theorems of `balance`. Assumes nothing.
-use Prim.Native.Nat.{ℕ, _*_, _≤_}
+use Prim.Native.Nat.{ℕ, _+_, _*_, _≤_}
 use mathlib.Core.Path.{_≡_}
+use mathlib.Core.Logic.{_⊎_, ⊎-map}
 use mathlib.Core.List.{List, List·Memᴰ}
-use lib.IntN.{ℤ}
+use native.Mathlib.Omega.{arith}
+use lib.IntN.{ℤ, pos}
 use lib.ListN.{length}
+use lib.Signed.{_<ℤ_}
 use Rattle.section.specs.declared.Section.{Section}
 use Rattle.section.specs.Refusal.{sectionRefusal}
 use Rattle.section.specs.Accepted.{Accepted}
-use Rattle.section.proofs.Accepted.{accepts}
+use Rattle.section.proofs.Accepted.{accepted, accepts}
+use Rattle.law.specs.Law.{lawOf}
 use Rattle.balance.specs.declared.Amount.{Amount}
 use Rattle.balance.specs.declared.Listing.{Listing}
+use Rattle.balance.specs.Forces.{stripStress, barStress, imbalance, moment}
 use Rattle.balance.specs.Depths.{Entry, listed}
-use Rattle.balance.specs.Exact.{ImbalanceNear, MomentNear}
 use Rattle.balance.specs.Row.{Shown}
 use Rattle.balance.specs.Answers.{imbalanceAnswer, momentAnswer, listAnswer, rowAfter}
-use Rattle.balance.proofs.Theorems.{listed-exactly, imbalance-close, moment-close, common-positive, strip-exact, bar-exact, pair-listed, zero-listed, last-zero-listed}
+use Rattle.balance.proofs.Common.{over, common, common-positive, strip-over, bar-over}
+use Rattle.balance.proofs.Rounded.{imbalance-close, moment-close, above, below}
+use Rattle.balance.proofs.Theorems.{listed-exactly, pair-listed, zero-listed, last-zero-listed}
 use Rattle.balance.proofs.Answers.{amount-is, on-grid}
 use Rattle.balance.proofs.Shown.{counted, fourteen, fifteen, words-stay, same-length, shown-exactly, shown-rising}
 use Rattle.book.specs.Record.{recordRefusal, sectionIn}
 use Rattle.book.specs.Good.{StandsAlone}
 use Rattle.book.proofs.Good.{record-stands}
 use Rattle.panel.specs.Face.{imbalanceOf, momentOf, listOf, rowOf}
-use Rattle.demands.specs.Demand3.{RowShows, Lists, Demand3}
+use Rattle.demands.specs.Demand3.{Exact, ImbalanceNear, MomentNear, ClearlyAbove, ClearlyBelow, ClearlyChanges, RowShows, Lists, Demand3}
 use Rattle.demands.proofs.Shapes.{amounts, grants}
 
+-- ---- the exact sums
+module _ {s : Section} (ok : sectionRefusal s ≡ 0) {x : ℕ} (from : 1 ≤ x) where
+  abbrev a : Accepted s
+  a = accepted s ok
+
+  imbalance-is-near : ImbalanceNear s x (imbalance s x)
+  imbalance-is-near e = imbalance-close a from (e .some) (e .strip) (e .bar) (e .strips) (e .bars)
+
+  moment-is-near : MomentNear s x (moment s x)
+  moment-is-near e = moment-close a from (e .some) (e .strip) (e .bar) (e .strips) (e .bars)
+
+  clearly-above : (e : Exact s x) → ClearlyAbove e → pos 0 <ℤ imbalance s x
+  clearly-above e = above a from (e .some) (e .strip) (e .bar) (e .strips) (e .bars)
+
+  clearly-below : (e : Exact s x) → ClearlyBelow e → imbalance s x <ℤ pos 0
+  clearly-below e = below a from (e .some) (e .strip) (e .bar) (e .strips) (e .bars)
+
+changes :
+    {s : Section} → sectionRefusal s ≡ 0 → {x : ℕ} → 1 ≤ x → (e : Exact s x) (f : Exact s (x + 1)) → ClearlyChanges e f
+    → ((pos 0 <ℤ imbalance s x) × (imbalance s (x + 1) <ℤ pos 0)) ⊎ ((imbalance s x <ℤ pos 0) × (pos 0 <ℤ imbalance s (x + 1)))
+changes ok {x} from e f =
+    let next : 1 ≤ x + 1 = omega arith in
+    ⊎-map (λ p. (clearly-above ok from e (p .0), clearly-below ok next f (p .1))) (λ p. (clearly-below ok from e (p .0), clearly-above ok next f (p .1)))
+
+exact : (s : Section) → Accepted s → (x : ℕ) → 1 ≤ x → Exact s x
+exact s a x from = record {
+  C = common s x;
+  some = common-positive s x a from;
+  strip = λ i. over (common s x) (stripStress (lawOf s) s x i);
+  bar = λ j. over (common s x) (barStress (lawOf s) s x j);
+  strips = strip-over s x;
+  bars = bar-over s x;
+}
+
+-- ---- the row
 module _ (s : Section) (before : List ℤ) {x : Listing} {after : List ℤ} (is : x ≡ listAnswer s (length before)) (left : after ≡ rowAfter s before) (ok : sectionRefusal s ≡ 0) where
   shows : 3 * x .count ≤ length before → RowShows s (x .count) after
   shows room =
@@ -33,8 +74,8 @@ module _ (s : Section) (before : List ℤ) {x : Listing} {after : List ℤ} (is 
         exactly = exactly;
         rising = shown-rising s before is left ok room;
         own = λ e w. exactly e .0 w .moment;
-        near = λ e w. let b = exactly e .0 w in rw (b .moment) (moment-close s (e .depth) ok (b .from));
-        pairs = λ d from to k. shown _ (pair-listed s d ok from to k);
+        near = λ e w. let b = exactly e .0 w in rw (b .moment) (moment-is-near ok (b .from));
+        pairs = λ d from to e f k. shown _ (pair-listed s d from to (changes ok from e f k));
         zeros = λ d from to z. shown _ (zero-listed s d from to z);
         last = λ z. shown _ (last-zero-listed s ok z);
       }
@@ -51,10 +92,10 @@ module _ (s : Section) (before : List ℤ) {x : Listing} {after : List ℤ} (is 
 
 -- ---- amounts
 imbalance-near : (s : Section) (d : ℕ) {x : Amount} → x ≡ imbalanceAnswer s d → x .refusal ≡ 0 → ImbalanceNear s d (x .amount)
-imbalance-near s d is h = let k = on-grid s d _ is h in rw (amount-is s d _ is h) (imbalance-close s d (k .0) (k .1 .0))
+imbalance-near s d is h = let k = on-grid s d _ is h in rw (amount-is s d _ is h) (imbalance-is-near (k .0) (k .1 .0))
 
 moment-near : (s : Section) (d : ℕ) {x : Amount} → x ≡ momentAnswer s d → x .refusal ≡ 0 → MomentNear s d (x .amount)
-moment-near s d is h = let k = on-grid s d _ is h in rw (amount-is s d _ is h) (moment-close s d (k .0) (k .1 .0))
+moment-near s d is h = let k = on-grid s d _ is h in rw (amount-is s d _ is h) (moment-is-near (k .0) (k .1 .0))
 
 -- ---- of a record that is handed over as bytes
 list-of :
@@ -74,5 +115,5 @@ demand3 = record {
   fw-imbalance-near = λ κs a x e p h. imbalance-near (sectionIn (a .0 .now)) (a .1 .0) (grants amounts (recordRefusal (a .0 .now)) _ p h .1) h;
   moment-near = λ κs a x e p. moment-near (a .0) (a .1 .0) p;
   fw-moment-near = λ κs a x e p h. moment-near (sectionIn (a .0 .now)) (a .1 .0) (grants amounts (recordRefusal (a .0 .now)) _ p h .1) h;
-  exact = λ s a. record { denominator = λ x. common-positive s x (accepts s a); strips = strip-exact s; bars = bar-exact s };
+  exact = exact;
 }

@@ -8,7 +8,7 @@ use Rattle.law.specs.Law.{flexural, modulus, s1Of, e1Of, lawBy}
 use Rattle.law.specs.Stress.{compressed, stretched}
 use Rattle.shear.specs.Shear.{kOf, cOf}
 use Rattle.shear.proofs.Roots.{root-is}
-use Rattle.class.specs.Class.{ladder, largest, stepOf, letterOf, classRefusal, classAnswer}
+use Rattle.class.specs.Class.{ladder, largestStep, stepOf, letterOf, classRefusal, classAnswer}
 use Rattle.demands.specs.Figures.{Figures}
 
 k-figure : kOf 540 ≡ 1608
@@ -20,5 +20,5 @@ unfolding cOf
 c-figure = root-is true (400 * 540) (100000000000 * 3216 * 30) 3548 (omega arith) refl refl
 
 pub figures : Figures
-unfolding ladder largest stepOf letterOf classRefusal classAnswer edition flexural modulus s1Of e1Of lawBy compressed stretched
+unfolding ladder largestStep stepOf letterOf classRefusal classAnswer edition flexural modulus s1Of e1Of lawBy compressed stretched
 figures = (refl, refl, refl, refl, refl, refl, refl, refl, refl, refl, refl, refl, refl, k-figure, c-figure)

@@ -1,7 +1,9 @@
 pub mod Table
 pub mod Shapes
+pub mod Free
 pub mod Demand1
 pub mod Demand2
 pub mod Demand3
 pub mod Figures
 pub mod Decided
+pub mod Widths

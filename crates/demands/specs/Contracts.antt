@@ -1,17 +1,12 @@
 -- What each public function's contract asks of a caller and what it tells one, as the checker reads it off the source. Nothing here is written anew, so
--- that a statement over it can't drift from the contract: where that tells less, the statement's proof fails, and where it asks for anything, `free` does.
+-- that a statement over it can't drift from the contract: where that tells less or asks for more, the statement's proof fails.
 use Prim.Native.Nat.{ℕ}
 use mathlib.Core.List.{List}
-use contract.Lifetimes.{Lfts}
-use borrow.Fn.Kinds.{PK, RK, Dens, In, Out}
+use borrow.Fn.Kinds.{PK, RK, In, Out}
 use Rattle.section.proofs.Section.refusal.Kinds as SectionRefusal
 use Rattle.section.proofs.Section.refusal.Reads as SectionRefusalReads
 use Rattle.section.proofs.Section.with_layer.Kinds as WithLayer
 use Rattle.section.proofs.Section.with_layer.Reads as WithLayerReads
-use Rattle.law.proofs.limit_depth.Kinds as LimitDepth
-use Rattle.law.proofs.limit_depth.Reads as LimitDepthReads
-use Rattle.law.proofs.effective_depth.Kinds as EffectiveDepth
-use Rattle.law.proofs.effective_depth.Reads as EffectiveDepthReads
 use Rattle.law.proofs.Law.of.Kinds as LawOf
 use Rattle.law.proofs.Law.of.Reads as LawOfReads
 use Rattle.law.proofs.Law.concrete_size.Kinds as ConcreteSize
@@ -75,101 +70,93 @@ pub record Contract (n : ℕ) : Type 3 where
   pub gives : RK n
   pub asked : In n takes
   pub told : Out n takes gives
-  -- it expects nothing of its caller
-  pub free : (κs : Lfts n) (a : Dens κs takes) → asked κs a
 
 abbrev pub section-refusal : Contract 0
-section-refusal = record { takes = SectionRefusal.ps; gives = SectionRefusal.r; asked = SectionRefusalReads.Asked; told = SectionRefusalReads.Learnt; free = λ κs a. tt }
+section-refusal = record { takes = SectionRefusal.ps; gives = SectionRefusal.r; asked = SectionRefusalReads.Asked; told = SectionRefusalReads.Learnt }
 
 abbrev pub with-layer : Contract 0
-with-layer = record { takes = WithLayer.ps; gives = WithLayer.r; asked = WithLayerReads.Asked; told = WithLayerReads.Learnt; free = λ κs a. tt }
-
-abbrev pub limit-depth : Contract 0
-limit-depth = record { takes = LimitDepth.ps; gives = LimitDepth.r; asked = LimitDepthReads.Asked; told = LimitDepthReads.Learnt; free = λ κs a. tt }
-
-abbrev pub effective-depth : Contract 0
-effective-depth = record { takes = EffectiveDepth.ps; gives = EffectiveDepth.r; asked = EffectiveDepthReads.Asked; told = EffectiveDepthReads.Learnt; free = λ κs a. tt }
+with-layer = record { takes = WithLayer.ps; gives = WithLayer.r; asked = WithLayerReads.Asked; told = WithLayerReads.Learnt }
 
 abbrev pub law-of : Contract 0
-law-of = record { takes = LawOf.ps; gives = LawOf.r; asked = LawOfReads.Asked; told = LawOfReads.Learnt; free = λ κs a. tt }
+law-of = record { takes = LawOf.ps; gives = LawOf.r; asked = LawOfReads.Asked; told = LawOfReads.Learnt }
 
 abbrev pub concrete-size : Contract 0
-concrete-size = record { takes = ConcreteSize.ps; gives = ConcreteSize.r; asked = ConcreteSizeReads.Asked; told = ConcreteSizeReads.Learnt; free = λ κs a. tt }
+concrete-size = record { takes = ConcreteSize.ps; gives = ConcreteSize.r; asked = ConcreteSizeReads.Asked; told = ConcreteSizeReads.Learnt }
 
 abbrev pub bar-size : Contract 0
-bar-size = record { takes = BarSize.ps; gives = BarSize.r; asked = BarSizeReads.Asked; told = BarSizeReads.Learnt; free = λ κs a. tt }
+bar-size = record { takes = BarSize.ps; gives = BarSize.r; asked = BarSizeReads.Asked; told = BarSizeReads.Learnt }
 
 abbrev pub piece-at : Contract 0
-piece-at = record { takes = PieceAt.ps; gives = PieceAt.r; asked = PieceAtReads.Asked; told = PieceAtReads.Learnt; free = λ κs a. tt }
+piece-at = record { takes = PieceAt.ps; gives = PieceAt.r; asked = PieceAtReads.Asked; told = PieceAtReads.Learnt }
 
 abbrev pub drawn-refused : Contract 0
-drawn-refused = record { takes = DrawnRefused.ps; gives = DrawnRefused.r; asked = DrawnRefusedReads.Asked; told = DrawnRefusedReads.Learnt; free = λ κs a. tt }
+drawn-refused = record { takes = DrawnRefused.ps; gives = DrawnRefused.r; asked = DrawnRefusedReads.Asked; told = DrawnRefusedReads.Learnt }
 
 abbrev pub draw : Contract 0
-draw = record { takes = Draw.ps; gives = Draw.r; asked = DrawReads.Asked; told = DrawReads.Learnt; free = λ κs a. tt }
+draw = record { takes = Draw.ps; gives = Draw.r; asked = DrawReads.Asked; told = DrawReads.Learnt }
 
 abbrev pub strip : Contract 0
-strip = record { takes = Strip.ps; gives = Strip.r; asked = StripReads.Asked; told = StripReads.Learnt; free = λ κs a. tt }
+strip = record { takes = Strip.ps; gives = Strip.r; asked = StripReads.Asked; told = StripReads.Learnt }
 
 abbrev pub compressed : Contract 0
-compressed = record { takes = Compressed.ps; gives = Compressed.r; asked = CompressedReads.Asked; told = CompressedReads.Learnt; free = λ κs a. tt }
+compressed = record { takes = Compressed.ps; gives = Compressed.r; asked = CompressedReads.Asked; told = CompressedReads.Learnt }
 
 abbrev pub stretched : Contract 0
-stretched = record { takes = Stretched.ps; gives = Stretched.r; asked = StretchedReads.Asked; told = StretchedReads.Learnt; free = λ κs a. tt }
+stretched = record { takes = Stretched.ps; gives = Stretched.r; asked = StretchedReads.Asked; told = StretchedReads.Learnt }
 
 abbrev pub amount-refused : Contract 0
-amount-refused = record { takes = AmountRefused.ps; gives = AmountRefused.r; asked = AmountRefusedReads.Asked; told = AmountRefusedReads.Learnt; free = λ κs a. tt }
+amount-refused = record { takes = AmountRefused.ps; gives = AmountRefused.r; asked = AmountRefusedReads.Asked; told = AmountRefusedReads.Learnt }
 
 abbrev pub listing-refused : Contract 0
-listing-refused = record { takes = ListingRefused.ps; gives = ListingRefused.r; asked = ListingRefusedReads.Asked; told = ListingRefusedReads.Learnt; free = λ κs a. tt }
+listing-refused = record { takes = ListingRefused.ps; gives = ListingRefused.r; asked = ListingRefusedReads.Asked; told = ListingRefusedReads.Learnt }
 
 abbrev pub imbalance : Contract 0
-imbalance = record { takes = Imbalance.ps; gives = Imbalance.r; asked = ImbalanceReads.Asked; told = ImbalanceReads.Learnt; free = λ κs a. tt }
+imbalance = record { takes = Imbalance.ps; gives = Imbalance.r; asked = ImbalanceReads.Asked; told = ImbalanceReads.Learnt }
 
 abbrev pub moment : Contract 0
-moment = record { takes = Moment.ps; gives = Moment.r; asked = MomentReads.Asked; told = MomentReads.Learnt; free = λ κs a. tt }
+moment = record { takes = Moment.ps; gives = Moment.r; asked = MomentReads.Asked; told = MomentReads.Learnt }
 
 abbrev pub depths : Contract 1
-depths = record { takes = Depths.ps; gives = Depths.r; asked = DepthsReads.Asked; told = DepthsReads.Learnt; free = λ κs a. tt }
+depths = record { takes = Depths.ps; gives = Depths.r; asked = DepthsReads.Asked; told = DepthsReads.Learnt }
 
 abbrev pub shear : Contract 0
-shear = record { takes = Shear.ps; gives = Shear.r; asked = ShearReads.Asked; told = ShearReads.Learnt; free = λ κs a. tt }
+shear = record { takes = Shear.ps; gives = Shear.r; asked = ShearReads.Asked; told = ShearReads.Learnt }
 
 abbrev pub book : Contract 1
-book = record { takes = Book.ps; gives = Book.r; asked = BookReads.Asked; told = BookReads.Learnt; free = λ κs a. tt }
+book = record { takes = Book.ps; gives = Book.r; asked = BookReads.Asked; told = BookReads.Learnt }
 
 abbrev pub record-place : Contract 1
-record-place = record { takes = RecordPlace.ps; gives = RecordPlace.r; asked = RecordPlaceReads.Asked; told = RecordPlaceReads.Learnt; free = λ κs a. tt }
+record-place = record { takes = RecordPlace.ps; gives = RecordPlace.r; asked = RecordPlaceReads.Asked; told = RecordPlaceReads.Learnt }
 
 abbrev pub record-part : Contract 1
-record-part = record { takes = RecordPart.ps; gives = RecordPart.r; asked = RecordPartReads.Asked; told = RecordPartReads.Learnt; free = λ κs a. tt }
+record-part = record { takes = RecordPart.ps; gives = RecordPart.r; asked = RecordPartReads.Asked; told = RecordPartReads.Learnt }
 
 abbrev pub section-of : Contract 1
-section-of = record { takes = SectionOf.ps; gives = SectionOf.r; asked = SectionOfReads.Asked; told = SectionOfReads.Learnt; free = λ κs a. tt }
+section-of = record { takes = SectionOf.ps; gives = SectionOf.r; asked = SectionOfReads.Asked; told = SectionOfReads.Learnt }
 
 abbrev pub class : Contract 0
-class = record { takes = Class.ps; gives = Class.r; asked = ClassReads.Asked; told = ClassReads.Learnt; free = λ κs a. tt }
+class = record { takes = Class.ps; gives = Class.r; asked = ClassReads.Asked; told = ClassReads.Learnt }
 
 abbrev pub fw-book : Contract 1
-fw-book = record { takes = FwBook.ps; gives = FwBook.r; asked = FwBookReads.Asked; told = FwBookReads.Learnt; free = λ κs a. tt }
+fw-book = record { takes = FwBook.ps; gives = FwBook.r; asked = FwBookReads.Asked; told = FwBookReads.Learnt }
 
 abbrev pub fw-record : Contract 1
-fw-record = record { takes = FwRecord.ps; gives = FwRecord.r; asked = FwRecordReads.Asked; told = FwRecordReads.Learnt; free = λ κs a. tt }
+fw-record = record { takes = FwRecord.ps; gives = FwRecord.r; asked = FwRecordReads.Asked; told = FwRecordReads.Learnt }
 
 abbrev pub fw-class : Contract 0
-fw-class = record { takes = FwClass.ps; gives = FwClass.r; asked = FwClassReads.Asked; told = FwClassReads.Learnt; free = λ κs a. tt }
+fw-class = record { takes = FwClass.ps; gives = FwClass.r; asked = FwClassReads.Asked; told = FwClassReads.Learnt }
 
 abbrev pub fw-draw : Contract 1
-fw-draw = record { takes = FwDraw.ps; gives = FwDraw.r; asked = FwDrawReads.Asked; told = FwDrawReads.Learnt; free = λ κs a. tt }
+fw-draw = record { takes = FwDraw.ps; gives = FwDraw.r; asked = FwDrawReads.Asked; told = FwDrawReads.Learnt }
 
 abbrev pub fw-imbalance : Contract 1
-fw-imbalance = record { takes = FwImbalance.ps; gives = FwImbalance.r; asked = FwImbalanceReads.Asked; told = FwImbalanceReads.Learnt; free = λ κs a. tt }
+fw-imbalance = record { takes = FwImbalance.ps; gives = FwImbalance.r; asked = FwImbalanceReads.Asked; told = FwImbalanceReads.Learnt }
 
 abbrev pub fw-moment : Contract 1
-fw-moment = record { takes = FwMoment.ps; gives = FwMoment.r; asked = FwMomentReads.Asked; told = FwMomentReads.Learnt; free = λ κs a. tt }
+fw-moment = record { takes = FwMoment.ps; gives = FwMoment.r; asked = FwMomentReads.Asked; told = FwMomentReads.Learnt }
 
 abbrev pub fw-depths : Contract 2
-fw-depths = record { takes = FwDepths.ps; gives = FwDepths.r; asked = FwDepthsReads.Asked; told = FwDepthsReads.Learnt; free = λ κs a. tt }
+fw-depths = record { takes = FwDepths.ps; gives = FwDepths.r; asked = FwDepthsReads.Asked; told = FwDepthsReads.Learnt }
 
 abbrev pub fw-shear : Contract 1
-fw-shear = record { takes = FwShear.ps; gives = FwShear.r; asked = FwShearReads.Asked; told = FwShearReads.Learnt; free = λ κs a. tt }
+fw-shear = record { takes = FwShear.ps; gives = FwShear.r; asked = FwShearReads.Asked; told = FwShearReads.Learnt }

@@ -23,8 +23,6 @@ OneIn {n} c read =
 pub record Decided : Type 0 where
   pub section-refusal : One Contracts.section-refusal
   pub with-layer : One Contracts.with-layer
-  pub limit-depth : One Contracts.limit-depth
-  pub effective-depth : One Contracts.effective-depth
   pub law-of : One Contracts.law-of
   pub concrete-size : One Contracts.concrete-size
   pub bar-size : One Contracts.bar-size

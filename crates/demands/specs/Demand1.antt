@@ -9,15 +9,13 @@ use mathlib.Core.Logic.{_↔_}
 use mathlib.Core.List.{List, [], _++_}
 use lib.IntN.{ℤ, pos}
 use lib.ListN.{length}
-use contract.Lifetimes.{Lfts}
-use borrow.Fn.Kinds.{Dens}
 use Rattle.section.specs.declared.Section.{Section}
 use Rattle.law.specs.Law.{noLaw}
 use Rattle.drawn.specs.Drawn.{noPoint}
 use Rattle.balance.specs.declared.Listing.{Listing}
 use Rattle.balance.specs.Depths.{listed}
 use Rattle.book.specs.Record.{noSection, sectionIn}
-use Rattle.demands.specs.Contracts.{Contract}
+use Rattle.demands.specs.Free.{Free}
 use Rattle.demands.specs.Every as Every
 use Rattle.demands.specs.Table.{Line, First, bookLines, askedLines, loneLines, sectionLines, layerLines, depthsLines, shearLines, classLines, strainLines, gridLines}
 
@@ -37,9 +35,9 @@ pub record RefusesList (lines : List Line) (s : Section) (before : List ℤ) (x 
   pub row : (x .refusal ≡ 0 → ⊥) → after ≡ before
 
 -- of every call of each public function
-pub record Demand1 : Type 3 where
+pub record Demand1 : Type 0 where
   -- it expects nothing of its caller
-  pub free : {n : ℕ} (c : Contract n) (κs : Lfts n) (a : Dens κs (c .takes)) → c .asked κs a
+  pub free : Free
   -- a section: 7 to 13; under 12 a layer is not added, and the section is as it came
   pub section-refusal : Every.section-refusal (λ s x. ByTable (sectionLines s) x)
   pub with-layer : Every.with-layer (λ s depth area x. Refuses (layerLines s (record { depth = depth; area = area })) (x .refusal) (x .section ≡ s))

@@ -16,7 +16,7 @@ use Rattle.section.specs.declared.Added.{Added}
 use Rattle.section.specs.Section.{noLayer, layerAt, layersOf}
 use Rattle.section.specs.Accepted.{LayersIn, Accepted}
 use Rattle.section.specs.Added.{inserted, withLayer}
-use Rattle.law.specs.Law.{limitDepth, effectiveDepth, lawOf}
+use Rattle.law.specs.Law.{lawOf}
 use Rattle.law.specs.Stress.{Stress, signed, size, concrete, bar}
 use Rattle.law.specs.Sizes.{sizeIn}
 use Rattle.drawn.specs.declared.Drawn.{Drawn}
@@ -65,8 +65,6 @@ pub record Demand2 : Type 0 where
   pub section-refusal : Every.section-refusal (λ s x. (x ≡ 0) ↔ Accepted s)
   pub with-layer : Every.with-layer (λ s depth area x. x .refusal ≡ 0 → LayerAdded s (record { depth = depth; area = area }) x)
   -- its law, and the stress of concrete and bars at the strain 500 t / q; the 0 of `sizeIn` is only of a law that no section has
-  pub limit-depth : Every.limit-depth (λ s x. x ≡ limitDepth s)
-  pub effective-depth : Every.effective-depth (λ s x. x ≡ effectiveDepth s)
   pub law-of : Every.law-of (λ s x. x .refusal ≡ 0 → x .law ≡ lawOf s)
   pub concrete-size : Every.concrete-size (λ l pulls t q x. x ≡ sizeIn l (concrete l pulls (500 * t) q))
   pub bar-size : Every.bar-size (λ l t q x. x ≡ size (bar l true (500 * t) q))

@@ -1,24 +1,72 @@
--- Demand 3: for each section and load, every depth where the forces balance is listed, once, shallowest first; where the exact sums clearly change
--- sign the pair is listed. Of what a caller gets: the row, the count, and the amounts that are answered.
+-- Demand 3: for each section and load, every depth where the forces balance is listed, once, shallowest first; where the exact sums clearly change sign
+-- the pair is listed. It is said of what a caller gets: the row, the count, and the amounts that are answered. The exact sums are written out here, so
+-- that no definition below has to be believed to be one.
 use Prim.Native.Nat.{ℕ, _+_, _*_, _≤_, _<_}
 use mathlib.Core.Path.{_≡_}
-use mathlib.Core.Logic.{_↔_}
+use mathlib.Core.Logic.{_⊎_, _↔_}
 use mathlib.Core.List.{List}
-use lib.IntN.{ℤ, pos}
+use lib.IntN.{ℤ, pos, negℤ, natAbs, _+ℤ_, _-ℤ_, _*ℤ_}
 use lib.ListN.{length}
-use lib.Signed.{_<ℤ_}
+use lib.Signed.{_≤ℤ_, _<ℤ_}
+use Rattle.arith.specs.Sums.{sumN, sumZ}
 use Rattle.section.specs.declared.Section.{Section}
 use Rattle.section.specs.Accepted.{Accepted}
 use Rattle.law.specs.Law.{lawOf}
+use Rattle.law.specs.Stress.{Stress, signed}
 use Rattle.balance.specs.declared.Listing.{Listing}
-use Rattle.balance.specs.Forces.{stripStress, barStress, imbalance, moment}
+use Rattle.balance.specs.Forces.{widthAt, depthAt, areaAt, loadOf, stripStress, barStress, imbalance, moment}
 use Rattle.balance.specs.Depths.{Entry, lastDepth, Balances, NoDepth}
 use Rattle.balance.specs.Row.{wordAt, Shown, howMany}
-use Rattle.balance.specs.Exact.{SameOver, common, ClearlyChanges, ImbalanceNear, MomentNear}
 use Rattle.book.specs.Record.{sectionIn}
 use Rattle.book.specs.Good.{StandsAlone}
 use Rattle.demands.specs.Every as Every
 
+-- ---- the exact sums of a depth: the same whole numbers of the law, but unrounded stresses, all over one denominator
+-- n over C is a stress: den times n is C times num, sign included
+abbrev pub Over : ℕ → ℤ → Stress → Type 0
+Over C n t = pos (t .den) *ℤ n ≡ pos C *ℤ signed (t .pulls) (t .num)
+
+-- any positive C, and any whole numerators that are, over it, the stresses of the strips and of the bars
+pub record Exact (s : Section) (x : ℕ) : Type 0 where
+  pub C : ℕ
+  pub some : 0 < C
+  pub strip : ℕ → ℤ
+  pub bar : ℕ → ℤ
+  pub strips : (i : ℕ) → i < s .h → Over C (strip i) (stripStress (lawOf s) s x i)
+  pub bars : (j : ℕ) → j < s .count → Over C (bar j) (barStress (lawOf s) s x j)
+
+-- over C: width times numerator over the strips, area times numerator over the bars, less C times the load
+abbrev pub exactImbalance : {s : Section} {x : ℕ} → Exact s x → ℤ
+exactImbalance {s} e = (sumZ (s .h) (λ i. pos (widthAt s i) *ℤ e .strip i) +ℤ sumZ (s .count) (λ j. pos (areaAt s j) *ℤ e .bar j)) -ℤ (pos (e .C) *ℤ loadOf s)
+
+-- each force times its lever, twice its distance above mid-height
+abbrev pub exactMoment : {s : Section} {x : ℕ} → Exact s x → ℤ
+exactMoment {s} e =
+    sumZ (s .h) (λ i. (pos (s .h) -ℤ pos (2 * i + 1)) *ℤ (pos (widthAt s i) *ℤ e .strip i))
+    +ℤ sumZ (s .count) (λ j. (pos (s .h) -ℤ pos (2 * depthAt s j)) *ℤ (pos (areaAt s j) *ℤ e .bar j))
+
+-- the strips' widths and the bars' areas
+abbrev pub area : Section → ℕ
+area s = sumN (s .h) (widthAt s) + sumN (s .count) (areaAt s)
+
+-- an imbalance within one kPa times the area of the exact one, a moment within that times h
+abbrev pub ImbalanceNear : Section → ℕ → ℤ → Type 0
+ImbalanceNear s x amount = (e : Exact s x) → natAbs (exactImbalance e -ℤ (pos (e .C) *ℤ amount)) < e .C * area s
+
+abbrev pub MomentNear : Section → ℕ → ℤ → Type 0
+MomentNear s x amount = (e : Exact s x) → natAbs (exactMoment e -ℤ (pos (e .C) *ℤ amount)) ≤ e .C * (area s * s .h)
+
+-- the exact imbalance is at least one kPa times the area above zero, or below it; on one side at a depth, on the other at the next
+abbrev pub ClearlyAbove : {s : Section} {x : ℕ} → Exact s x → Type 0
+ClearlyAbove {s} e = pos (e .C * area s) ≤ℤ exactImbalance e
+
+abbrev pub ClearlyBelow : {s : Section} {x : ℕ} → Exact s x → Type 0
+ClearlyBelow {s} e = exactImbalance e ≤ℤ negℤ (pos (e .C * area s))
+
+abbrev pub ClearlyChanges : {s : Section} {x : ℕ} → Exact s x → Exact s (x + 1) → Type 0
+ClearlyChanges e f = (ClearlyAbove e × ClearlyBelow f) ⊎ (ClearlyBelow e × ClearlyAbove f)
+
+-- ---- the row
 -- what a caller reads in the row, where it has room for three words a listed depth
 pub record RowShows (s : Section) (count : ℕ) (row : List ℤ) : Type 0 where
   -- 1. exactly the entries whose depth is on the grid and has that kind and that moment; each once, strictly ascending
@@ -28,7 +76,7 @@ pub record RowShows (s : Section) (count : ℕ) (row : List ℤ) : Type 0 where
   pub own : (e : Entry) → Shown row count e → e .moment ≡ moment s (e .depth)
   pub near : (e : Entry) → Shown row count e → MomentNear s (e .depth) (e .moment)
   -- 3. where the exact imbalances at neighbours are clearly on two sides of zero, the shallower is shown
-  pub pairs : (x : ℕ) → 1 ≤ x → x < lastDepth s → ClearlyChanges s x → Shown row count (record { depth = x; kind = 2; moment = moment s x })
+  pub pairs : (x : ℕ) → 1 ≤ x → x < lastDepth s → (e : Exact s x) (f : Exact s (x + 1)) → ClearlyChanges e f → Shown row count (record { depth = x; kind = 2; moment = moment s x })
   -- 4. a zero is shown, at the last depth too, which has no next one
   pub zeros : (x : ℕ) → 1 ≤ x → x ≤ lastDepth s → imbalance s x ≡ pos 0 → Shown row count (record { depth = x; kind = 1; moment = moment s x })
   pub last : imbalance s (lastDepth s) ≡ pos 0 → Shown row count (record { depth = lastDepth s; kind = 1; moment = moment s (lastDepth s) })
@@ -44,12 +92,6 @@ pub record Lists (s : Section) (before : List ℤ) (x : Listing) (after : List �
   pub rest : (j : ℕ) → 3 * x .count ≤ j → wordAt after j ≡ wordAt before j
   pub size : length after ≡ length before
 
--- the exact sums have a denominator, and over it each strip's and each bar's stress is the fraction that it is
-pub record ExactSums (s : Section) : Type 0 where
-  pub denominator : (x : ℕ) → 1 ≤ x → 0 < common s x
-  pub strips : (x i : ℕ) → i < s .h → SameOver (common s x) (stripStress (lawOf s) s x i)
-  pub bars : (x j : ℕ) → j < s .count → SameOver (common s x) (barStress (lawOf s) s x j)
-
 pub record Demand3 : Type 0 where
   pub depths : Every.depths (λ s before x after. Accepted s → Lists s before x after)
   pub fw-depths : Every.fw-depths (λ part before x after. StandsAlone part → Accepted (sectionIn part) → Lists (sectionIn part) before x after)
@@ -58,4 +100,5 @@ pub record Demand3 : Type 0 where
   pub fw-imbalance-near : Every.fw-imbalance (λ part d x. x .refusal ≡ 0 → ImbalanceNear (sectionIn part) d (x .amount))
   pub moment-near : Every.moment (λ s d x. x .refusal ≡ 0 → MomentNear s d (x .amount))
   pub fw-moment-near : Every.fw-moment (λ part d x. x .refusal ≡ 0 → MomentNear (sectionIn part) d (x .amount))
-  pub exact : (s : Section) → Accepted s → ExactSums s
+  -- exact sums there are, at every depth
+  pub exact : (s : Section) → Accepted s → (x : ℕ) → 1 ≤ x → Exact s x

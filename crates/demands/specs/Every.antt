@@ -38,12 +38,6 @@ abbrev pub with-layer : (Section → ℕ → ℕ → Added → Type 0) → Type 
 with-layer says = Tells Contracts.with-layer (λ κs a x e. says (a .0) (a .1 .0) (a .1 .1 .0) x)
 
 -- ---- law
-abbrev pub limit-depth : (Section → ℕ → Type 0) → Type 0
-limit-depth says = Tells Contracts.limit-depth (λ κs a x e. says (a .0) x)
-
-abbrev pub effective-depth : (Section → ℕ → Type 0) → Type 0
-effective-depth says = Tells Contracts.effective-depth (λ κs a x e. says (a .0) x)
-
 abbrev pub law-of : (Section → LawAnswer → Type 0) → Type 0
 law-of says = Tells Contracts.law-of (λ κs a x e. says (a .0) x)
 

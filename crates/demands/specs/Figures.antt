@@ -7,9 +7,9 @@ use Rattle.law.specs.Stress.{Is, compressed, stretched}
 use Rattle.shear.specs.Shear.{kOf, cOf}
 use Rattle.class.specs.Class.{classAnswer, classed, refused, letter-a, letter-c, letter-d}
 
--- fck 30, d 250, feq2 3000, feq3 2500; the bars, of fyk 500, are not in its figures
+-- fck 30, d 250, feq2 3000, feq3 2500; the bars, of fyk 500 and at that depth, are not in its figures
 abbrev pub law250 : Law
-law250 = lawBy 30 250 500 3000 2500
+law250 = lawBy 30 250 250 500 3000 2500
 
 abbrev pub Figures : Type 0
 Figures =

@@ -1,8 +1,10 @@
 pub mod Contracts
 pub mod Every
 pub mod Table
+pub mod Free
 pub mod Demand1
 pub mod Demand2
 pub mod Demand3
 pub mod Figures
 pub mod Decided
+pub mod Widths

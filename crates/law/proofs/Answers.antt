@@ -1,4 +1,4 @@
--- What the answer of `Law::of` tells its callers. Assumes nothing.
+-- What the answer of `Law::of` tells its callers, and what a section's law does. Assumes nothing.
 use mathlib.Core.Path.{_≡_, refl, sym, ap, _∙_}
 use mathlib.Core.Bool.{false}
 use lib.Dec.{eqb}
@@ -8,8 +8,9 @@ use Rattle.section.specs.declared.Section.{Section}
 use Rattle.section.specs.Accepted.{Accepted}
 use Rattle.section.specs.Refusal.{sectionRefusal}
 use Rattle.section.proofs.Accepted.{accepted}
+use Rattle.law.specs.declared.Law.{Law}
 use Rattle.law.specs.declared.LawAnswer.{LawAnswer}
-use Rattle.law.specs.Law.{lawOf, refused, lawAnswer}
+use Rattle.law.specs.Law.{limitDepth, effectiveDepth, lawBy, lawOf, refused, lawAnswer}
 
 answer-refusal : (s : Section) → lawAnswer s .refusal ≡ sectionRefusal s
 unfolding lawAnswer
@@ -32,3 +33,13 @@ module _ (s : Section) {a : LawAnswer} (is : a ≡ lawAnswer s) where
   -- what is known of a section that is not refused
   pub passes : a .refusal ≡ 0 → Accepted s × (a .law ≡ lawOf s)
   passes h = (accepted s (no-refusal h), ap (λ (x : LawAnswer). x .law) is ∙ answer-law s (no-refusal h))
+
+-- the depths that a section's law carries
+module _ (s : Section) {l : Law} (is : l ≡ lawOf s) where
+  pub limit-is : l .limit ≡ limitDepth s
+  unfolding lawBy
+  limit-is = ap (λ (l : Law). l .limit) is
+
+  pub depth-is : l .d ≡ effectiveDepth s
+  unfolding lawBy
+  depth-is = ap (λ (l : Law). l .d) is

@@ -40,9 +40,9 @@ s1Of fck d = 7 * flexural fck * (1600 - d) / 10000
 unfoldable pub e1Of : ℕ → ℕ → ℕ
 e1Of fck d = 1000 * s1Of fck d / modulus fck
 
--- the law by the numbers that it hangs on
-unfoldable pub lawBy : (fck d fyk feq2 feq3 : ℕ) → Law
-lawBy fck d fyk feq2 feq3 = record {
+-- the law by the numbers that it hangs on, with the two depths
+unfoldable pub lawBy : (fck d limit fyk feq2 feq3 : ℕ) → Law
+lawBy fck d limit fyk feq2 feq3 = record {
   fcd = fck * 1000 * 17 / 30;
   s1 = s1Of fck d;
   e1 = e1Of fck d;
@@ -51,16 +51,18 @@ lawBy fck d fyk feq2 feq3 = record {
   s3 = 37 * feq3 / 100;
   e3 = edition .e3;
   fyd = fyk * 1000 * 100 / 115;
+  limit = limit;
+  d = d;
 }
 
 abbrev pub lawOf : Section → Law
-lawOf s = lawBy (s .fck) (effectiveDepth s) (s .fyk) (s .feq2) (s .feq3)
+lawOf s = lawBy (s .fck) (effectiveDepth s) (limitDepth s) (s .fyk) (s .feq2) (s .feq3)
 
 abbrev pub answered : Law → LawAnswer
 answered law = record { refusal = 0; law = law }
 
 abbrev pub noLaw : Law
-noLaw = record { fcd = 0; s1 = 0; e1 = 0; e2 = 0; s2 = 0; s3 = 0; e3 = 0; fyd = 0 }
+noLaw = record { fcd = 0; s1 = 0; e1 = 0; e2 = 0; s2 = 0; s3 = 0; e3 = 0; fyd = 0; limit = 0; d = 0 }
 
 abbrev pub refused : ℕ → LawAnswer
 refused number = record { refusal = number; law = noLaw }

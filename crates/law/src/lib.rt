@@ -13,7 +13,7 @@ const FLEXURAL: [u32; 7] = [3700, 4300, 4800, 5300, 5800, 6300, 6800];
 
 const MODULUS: [u32; 7] = [29000, 30500, 32000, 33500, 35000, 36000, 37000];
 
-// Stresses in kPa, strains in millionths.
+// Stresses in kPa, strains in millionths; then, in mm, the depth where the limit strain is reached and the effective depth.
 pub struct Law {
     pub fcd: u32,
     pub s1: u32,
@@ -23,6 +23,8 @@ pub struct Law {
     pub s3: u32,
     pub e3: u32,
     pub fyd: u32,
+    pub limit: u32,
+    pub d: u32,
 }
 
 pub struct LawAnswer {
@@ -30,16 +32,14 @@ pub struct LawAnswer {
     pub law: Law,
 }
 
-// Where the limit strain is reached: the depth of the deepest layer, or h without bars. A place past the eighth has no layer.
-pub fn limit_depth(section: Section) -> u32
+// Where the limit strain is reached: the depth of the deepest layer, or h without bars.
+fn limit_depth(section: Section) -> u32
+    requires { ⌜ Accepted section ⌝ }
     ensures { λ r. ⌜ r ≡ limitDepth section ⌝ }
 {
     let m = section.count as usize;
     if m == 0 {
         return section.h as u32;
-    }
-    if 8 < m {
-        return 0;
     }
     let at = m - 1;
     let deepest = section.layers[at];
@@ -47,7 +47,8 @@ pub fn limit_depth(section: Section) -> u32
 }
 
 // d, for s1 and for shear.
-pub fn effective_depth(section: Section) -> u32
+fn effective_depth(section: Section) -> u32
+    requires { ⌜ Accepted section ⌝ }
     ensures { λ r. ⌜ r ≡ effectiveDepth section ⌝ }
 {
     limit_depth(section)
@@ -59,7 +60,8 @@ fn numbers(section: Section) -> Law
     ensures { λ r. ⌜ r ≡ lawOf section ⌝ }
 {
     let column = ((section.fck - 20) / 5) as usize;
-    let s1 = 7 * FLEXURAL[column] * (1600 - effective_depth(section)) / 10000;
+    let d = effective_depth(section);
+    let s1 = 7 * FLEXURAL[column] * (1600 - d) / 10000;
     let e1 = 1000 * s1 / MODULUS[column];
     Law {
         fcd: section.fck as u32 * 1000 * 17 / 30,
@@ -70,6 +72,8 @@ fn numbers(section: Section) -> Law
         s3: 37 * (section.feq3 as u32) / 100,
         e3: 10000,
         fyd: section.fyk as u32 * 1000 * 100 / 115,
+        limit: limit_depth(section),
+        d: d,
     }
 }
 
@@ -132,6 +136,8 @@ impl Law {
                     s3: 0,
                     e3: 0,
                     fyd: 0,
+                    limit: 0,
+                    d: 0,
                 },
             };
         }

@@ -151,14 +151,14 @@ fn struts(fck: u64, bd: u64) -> u64
 }
 
 // The lesser of the sum and the struts, in mN.
-fn resistance(section: Section, fyd: u64) -> u64
-    requires { ⌜ (Accepted section) × (fyd ≡ lawOf section .fyd) ⌝ }
+fn resistance(section: Section, law: Law) -> u64
+    requires { ⌜ (Accepted section) × (law ≡ lawOf section) ⌝ }
     ensures { λ r. ⌜ (r ≡ resistance section) × (r ≤ mostShear) ⌝ }
 {
-    let d = law::effective_depth(section) as u64;
+    let d = law.d as u64;
     let bd = section.b as u64 * d;
     let shares = concrete_share(section, d) + fibre_share(section.feq3 as u64, d);
-    let sum = shares * bd + stirrups(section.asw, d, fyd, section.spacing);
+    let sum = shares * bd + stirrups(section.asw, d, law.fyd as u64, section.spacing);
     let struts = struts(section.fck as u64, bd);
     least(sum, struts)
 }
@@ -176,6 +176,6 @@ pub fn shear(section: Section) -> Amount
     }
     Amount {
         refusal: 0,
-        amount: resistance(section, answer.law.fyd as u64) as i64,
+        amount: resistance(section, answer.law) as i64,
     }
 }

@@ -19,10 +19,10 @@ use Rattle.balance.proofs.bars.Statement.{statement}
 use Rattle.balance.proofs.bars.Tie as tie
 
 abbrev Forces : Section → ℕ → ℕ → ℤ → Type 0
-Forces s x n z = Running (barForce rounded (lawOf s) s x) mostForce n z
+Forces s x n z = Running (barForce (lawOf s) s x) mostForce n z
 
 abbrev Moments : Section → ℕ → ℕ → ℤ → Type 0
-Moments s x n z = Running (barMoment rounded (lawOf s) s x) mostMoment n z
+Moments s x n z = Running (barMoment (lawOf s) s x) mostMoment n z
 
 abbrev Inv-loop : tie.InvT-loop
 Inv-loop law axis section m h sum₀ moment₀ j₀ sum moment j = (j ≤ m) × Forces section (axis .x) j (toZ w64 sum) × Moments section (axis .x) j (toZ w64 moment)
@@ -45,7 +45,7 @@ weak c =
 force-requires : tie.Need-force-requires Inv-loop μ-loop
 force-requires c κs = rw (read (record { sfits = c .bar .ok })) (weak c)
 
-force-is : (c : tie.After-force Inv-loop μ-loop) → c .force .result ≡ barForce rounded (lawOf (start c .args .t1)) (start c .args .t1) (start c .args .axis .x) (at c)
+force-is : (c : tie.After-force Inv-loop μ-loop) → c .force .result ≡ barForce (lawOf (start c .args .t1)) (start c .args .t1) (start c .args .axis .x) (at c)
 unfolding barForce
 force-is c =
     let s = start c .args .t1 in
@@ -60,7 +60,7 @@ turned-requires c κs =
     (p .sizes .1 .1, omega (arith, p .bars .0 .each (at (c .before)) (omega arith) .inside), rw (read (record { sfits = c .before .force .ok })) (c .before .force .ensures .1))
 
 turned-is : (c : tie.After-turned Inv-loop μ-loop)
-    → let a = start (c .before .before) .args in c .turned .result ≡ barMoment rounded (lawOf (a .t1)) (a .t1) (a .axis .x) (at (c .before .before))
+    → let a = start (c .before .before) .args in c .turned .result ≡ barMoment (lawOf (a .t1)) (a .t1) (a .axis .x) (at (c .before .before))
 unfolding barMoment
 turned-is c =
     let f = c .before .before in

@@ -7,7 +7,6 @@ use borrow.Author.Needs.{needs}
 use Rattle.arith.proofs.Machine.{back, Stands, returned, stands, stands-add, stands-sub, stands-fits, stored}
 use Rattle.section.specs.Accepted.{Accepted}
 use Rattle.law.specs.Law.{lawOf}
-use Rattle.law.specs.Stress.{rounded}
 use Rattle.balance.specs.Forces.{forces, imbalance}
 use Rattle.balance.specs.Code.{mostForce}
 use Rattle.balance.proofs.Load.{load-held, load-in-mN}
@@ -29,7 +28,7 @@ abbrev computed : Summed → ℤ
 computed c = back (c .before .before .strips-force .result) +ℤ back (c .before .before .before .bars .result .force)
 
 inside : (c : Summed)
-    → let s = start c .args .section in Stands (computed c) (forces rounded (lawOf s) s (c .before .before .before .before .axis-at .result .x)) (2000 * (65536 * 2000) + mostForce * 8)
+    → let s = start c .args .section in Stands (computed c) (forces (lawOf s) s (c .before .before .before .before .axis-at .result .x)) (2000 * (65536 * 2000) + mostForce * 8)
 unfolding forces
 inside c =
     let f = c .before .before .strips-force .ensures in

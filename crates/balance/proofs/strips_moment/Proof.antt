@@ -10,7 +10,6 @@ use borrow.Author.Needs.{needs}
 use Rattle.arith.proofs.Machine.{read, back}
 use Rattle.arith.proofs.Sums.{Running, running-none, running-fits, running-next, running-all}
 use Rattle.law.specs.Law.{lawOf}
-use Rattle.law.specs.Stress.{rounded}
 use Rattle.strips.proofs.Runs.{strip-most}
 use Rattle.balance.specs.Forces.{widthAt, lever, stripForce, stripMoment}
 use Rattle.balance.specs.Code.{mostMoment}
@@ -20,7 +19,7 @@ use Rattle.balance.proofs.strips_moment.Tie as tie
 
 abbrev Inv-loop : tie.InvT-loop
 Inv-loop section law axis h moment₀ i₀ moment i =
-    (i ≤ h) × Running (stripMoment rounded (lawOf section) section (axis .x)) mostMoment i (toZ w64 moment)
+    (i ≤ h) × Running (stripMoment (lawOf section) section (axis .x)) mostMoment i (toZ w64 moment)
 
 abbrev μ-loop : tie.MeasureT-loop
 μ-loop section law axis h moment₀ i₀ moment i = h - i
@@ -36,7 +35,7 @@ turned-requires c κs =
 
 turned-is : (c : tie.After-turned Inv-loop μ-loop)
     → let a = c .before .before .before .before .before .args in
-    c .turned .result ≡ stripMoment rounded (lawOf (a .section)) (a .section) (a .axis .x) (c .before .before .before .before .loop .i)
+    c .turned .result ≡ stripMoment (lawOf (a .section)) (a .section) (a .axis .x) (c .before .before .before .before .loop .i)
 unfolding stripMoment stripForce
 turned-is c =
     let a = c .before .before .before .before .before .args in

@@ -9,7 +9,7 @@ use Rattle.law.proofs.numbers.Tie as tie
 
 mul-s1-2 : tie.Need-mul-s1-2
 unfolding flexural
-mul-s1-2 c = omega (arith, flexural-in (c .before .pre) .1)
+mul-s1-2 c = omega (arith, flexural-in (c .before .before .pre) .1)
 
 sub-s1 : tie.Need-sub-s1
 sub-s1 c = omega (arith, c .effective-depth .ensures, depth-in (c .before .before .pre) .1)
@@ -26,13 +26,13 @@ div-e1 : tie.Need-div-e1
 unfolding modulus
 div-e1 c = omega (arith, modulus-in (c .before .before .pre) .0)
 
-add-t12 : tie.Need-add-t12
+add-e2 : tie.Need-add-t19
 unfolding flexural modulus s1Of e1Of
-add-t12 c = rw (c .before .effective-depth .ensures) (omega (arith, e1-in (c .before .before .before .pre) .1))
+add-e2 c = rw (c .before .effective-depth .ensures) (omega (arith, e1-in (c .before .before .before .pre) .1))
 
 returns : tie.Need-returns
 unfolding flexural modulus s1Of e1Of lawBy edition
-returns c = rw (c .before .before .before .before .effective-depth .ensures)
+returns c = rw (c .before .before .before .before .before .effective-depth .ensures, c .limit-depth .ensures)
 
 pub numbers-spec : {M : Type 1} → statement M
 numbers-spec =
@@ -40,10 +40,10 @@ numbers-spec =
     (tie.spec
     (λ c. search needs)
     (λ c. search needs)
+    (λ c κs. search needs)
     (λ c. search needs)
     (λ c. search needs)
     mul-s1-2
-    (λ c κs. search needs)
     sub-s1
     mul-s1-3
     mul-e1
@@ -53,7 +53,7 @@ numbers-spec =
     (λ c. search needs)
     (λ c. search needs)
     (λ c. search needs)
-    add-t12
+    add-e2
     (λ c. search needs)
     (λ c. search needs)
     (λ c. search needs)
@@ -61,4 +61,5 @@ numbers-spec =
     (λ c. search needs)
     (λ c. search needs)
     (λ c. search needs)
+    (λ c κs. search needs)
     returns)

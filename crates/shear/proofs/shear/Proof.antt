@@ -3,7 +3,6 @@ use mathlib.Core.Path.{_≡_, ap, _∙_}
 use native.Mathlib.Omega.{arith}
 use borrow.Author.Needs.{needs}
 use Rattle.arith.proofs.Machine.{read-pos}
-use Rattle.law.specs.declared.Law.{Law}
 use Rattle.law.proofs.Answers.{passes}
 use Rattle.balance.specs.Answers.{answered, noAmount}
 use Rattle.shear.proofs.Answers.{refuses-section, refuses-without-bars, resists}
@@ -24,7 +23,7 @@ returns-3 : tie.Need-returns-3
 returns-3 c =
     let is = c .resistance .ensures in
     ap answered (read-pos (c .resistance .result) (omega (arith, is .1)))
-    ∙ resists _ _ (c .before .before .before .before .before .before .of .ensures) _ (is .0) (c .before .before .before .before .if1 .left) (c .before .before .if2 .left)
+    ∙ resists _ _ (c .before .before .before .before .before .of .ensures) _ (is .0) (c .before .before .before .if1 .left) (c .before .if2 .left)
 
 pub shear-spec : {M : Type 1} → statement M
 shear-spec =
@@ -35,7 +34,6 @@ shear-spec =
     returns
     (λ c κs. search needs)
     returns-2
-    (λ c. search needs)
-    (λ c κs. let k = passes _ (c .before .before .before .before .before .of .ensures) (c .before .before .before .if1 .left) in (k .0, ap (λ (l : Law). l .fyd) (k .1)))
+    (λ c κs. passes _ (c .before .before .before .before .of .ensures) (c .before .before .if1 .left))
     (λ c. search needs)
     returns-3)

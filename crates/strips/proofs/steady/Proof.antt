@@ -44,6 +44,6 @@ steady-spec =
     (λ c. search needs)
     (λ c. search needs)
     (λ c. search needs)
-    (λ c. search needs)
-    (λ c. product-fits _ _ 4294967295 65535 (omega arith) (omega arith) (omega arith))
+    (λ c. let g = c .before .before .before .before .before .before .before .before .struct-known .given .1 in search (needs, g))
+    (λ c. let g = c .before .before .before .before .before .before .before .before .struct-known .given .1 in product-fits _ _ 4294967295 65535 (omega (arith, g)) (omega (arith, g)) (omega arith))
     returns)
