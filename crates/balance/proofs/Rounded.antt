@@ -24,7 +24,10 @@ use Rattle.law.proofs.Continuous.{either, compressed-proper, stretched-proper, 
 use Rattle.strips.specs.Strips.{Scale, middle, strip}
 use Rattle.balance.specs.Forces.{widthAt, depthAt, areaAt, loadOf, strainScale, stripStress, barStress, stripForce, barForce, stripMoment, barMoment, forces, moments, imbalance, moment}
 
--- ---- a stress over any denominator C: its numerator n is such that den n is C num, sign included
+-- ---- a stress over any denominator: n is its numerator over C where den n is C num, sign included
+abbrev pub Over : ℕ → ℤ → Stress → Type 0
+Over C n t = pos (t .den) *ℤ n ≡ pos C *ℤ signed (t .pulls) (t .num)
+
 none-left : (d n : ℕ) → 0 < d → d * n ≡ 0 → n ≡ 0
 none-left d n proper e = omega (arith, NatL.mul-le-mul-right n proper)
 
@@ -42,7 +45,7 @@ signed-within C d a true n some proper is =
     let back : pos d *ℤ negℤ n ≡ pos C *ℤ pos a = mul-neg (pos d) n ∙ ap negℤ is ∙ ap negℤ (mul-neg (pos C) (pos a)) ∙ negℤ-negℤ (pos C *ℤ pos a) in
     rw (negℤ-negℤ n) at (within-neg (size-within C d a (negℤ n) some proper back))
 
-stress-within : (C : ℕ) (t : Stress) (n : ℤ) → 0 < C → 0 < t .den → pos (t .den) *ℤ n ≡ pos C *ℤ signed (t .pulls) (t .num) → Within C n (rounded t) 1
+stress-within : (C : ℕ) (t : Stress) (n : ℤ) → 0 < C → 0 < t .den → Over C n t → Within C n (rounded t) 1
 unfolding rounded size
 stress-within C t n = signed-within C (t .den) (t .num) (t .pulls) n
 
@@ -85,10 +88,6 @@ area s = sumN (s .h) (widthAt s) + sumN (s .count) (areaAt s)
 
 pub area-positive : {s : Section} → Accepted s → 0 < area s
 area-positive {s} a = omega (arith, sum-positive (s .h) (widthAt s) (omega (arith, a .sizes .1 .0)) (λ i h. omega (arith, a .sizes .0 .0)))
-
--- n is the numerator of a stress over C
-abbrev pub Over : ℕ → ℤ → Stress → Type 0
-Over C n t = pos (t .den) *ℤ n ≡ pos C *ℤ signed (t .pulls) (t .num)
 
 -- over any C, and of any numerators that are the stresses over it
 module _ {s : Section} (a : Accepted s) {x C : ℕ} (from : 1 ≤ x) (some : 0 < C) (strip bar : ℕ → ℤ)
