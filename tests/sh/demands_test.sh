@@ -1,20 +1,26 @@
 #!/usr/bin/env bash
-# The demands are of every public function, by its contract: each is among the contracts that they read. Where the contracts of the C face are
-# taken away, a parameter of it is narrowed, or the laws on the exact sums are said of something less, each statement that speaks of these fails and
-# no other. A must-fail edit can't say that: it stays in its crate.
+# The demands are of every public function, by its contract: each is among the contracts that they read. Where the
+# contracts of the C face are taken away, a parameter of it is narrowed, or the laws on the exact sums are said of
+# something less, each statement that speaks of these fails and no other. A must-fail edit can't say that: it stays in
+# its crate.
 set -u
 cd "$(dirname "$0")/../.." || exit 1
 . tests/sh/check.sh
 copy=target/weakened
+specs=crates/demands/specs
+proofs=crates/demands/proofs
 
-# The public functions, crate by crate, a method after its type, each with its signature; the program's are not called from outside.
+# The public functions, crate by crate, a method after its type, each with its signature; the program's are not called
+# from outside.
 signatures() {
     awk '
         FNR == 1 { split(FILENAME, path, "/"); type = "" }
         /^impl / { type = $2 "." }
         /^}/ { type = "" }
         match($0, /pub (extern "C" )?fn [a-z0-9_]+/) {
-            name = substr($0, RSTART, RLENGTH); sub(/.* /, "", name); sub(/\(self/, "(self: " type)
+            name = substr($0, RSTART, RLENGTH); sub(/.* /, "", name)
+            while ($0 !~ /\)/ && (getline more) > 0) $0 = $0 more
+            sub(/\(self/, "(self: " type)
             print path[2] "." type name "\t" $0
         }
     ' crates/*/src/*.rt | grep -v '^booklines\.' | sort
@@ -27,35 +33,37 @@ same() {
 
 all_read() {
     signatures | cut -f1 >target/tests/expected
-    sed -nE 's/^use Rattle·([a-z]+)\.proofs\.(.*)\.Reads as .*/\1.\2/p' crates/demands/specs/Contracts.antt | sort | same
+    sed -nE 's/^use Rattle·([a-z]+)\.proofs\.(.*)\.Reads as .*/\1.\2/p' "$specs/Contracts.antt" | sort | same
 }
 
 # What is read of each is one contract, whole.
 all_contracts() {
-    sed -nE 's/^use .*\.Reads as (.*)/asked = \1.Asked; told = \1.Learnt/p' crates/demands/specs/Contracts.antt | sort >target/tests/expected
-    grep -oE 'asked = .*Learnt' crates/demands/specs/Contracts.antt | sort | same
+    sed -nE 's/^use .*\.Reads as (.*)/asked = \1.Asked; told = \1.Learnt/p' "$specs/Contracts.antt" | sort >target/tests/expected
+    grep -oE 'asked = .*Learnt' "$specs/Contracts.antt" | sort | same
 }
 
 contracts() {
-    sed -nE 's/^abbrev pub ([a-z0-9-]+) : Contract .*/\1/p' crates/demands/specs/Contracts.antt | sort
+    sed -nE 's/^abbrev pub ([a-z0-9-]+) : Contract .*/\1/p' "$specs/Contracts.antt" | sort
 }
 
 # stated FILE NAMES..: whether these are the contracts that a statement of the file is on.
 stated() {
     local file=$1
     shift
-    grep -oE '\bEvery\.[a-z0-9-]+' "crates/demands/specs/$file" | cut -d. -f2 | sort -u >target/tests/stated
+    grep -oE '\bEvery\.[a-z0-9-]+' "$specs/$file" | cut -d. -f2 | sort -u >target/tests/stated
     "$@" >target/tests/expected
     same <target/tests/stated
 }
 
 # The contract of each public function that is read.
 named() {
-    sed -nE 's/^use Rattle·([a-z]+)\.proofs\.(.*)\.Reads as (.*)/\3 \1.\2/p; s/^([a-z0-9-]+) = record .* told = (.*)\.Learnt }$/\2 \1/p' crates/demands/specs/Contracts.antt |
+    sed -nE 's/^use Rattle·([a-z]+)\.proofs\.(.*)\.Reads as (.*)/\3 \1.\2/p
+        s/^([a-z0-9-]+) = record .* told = (.*)\.Learnt }$/\2 \1/p' "$specs/Contracts.antt" |
         awk '$1 in read { print read[$1] "\t" $2 } { read[$1] = $2 }' | sort
 }
 
-# Those that take a section, a record or a book, whatever they answer, and those whose answer bears a number, whatever they take.
+# Those that take a section, a record or a book, whatever they answer, and those whose answer bears a number, whatever
+# they take.
 refusing() {
     local answers
     answers=$(awk '/^pub struct / { name = $3 } /^    pub refusal: / { print name }' crates/*/src/*.rt | paste -sd '|')
@@ -69,20 +77,23 @@ answering() {
 
 # Each contract is decided, and so is the row of one that is lent a row.
 all_decided() {
-    { contracts | sed 's/.*/& &/' && sed -nE 's/^abbrev pub ([a-z0-9-]+) : \(.* → List ℤ → Type 0\) → .*/\1-row \1/p' crates/demands/specs/Every.antt; } | sort >target/tests/expected
-    sed -nE 's/^  pub ([a-z0-9-]+) : One(In)? Contracts\.([a-z0-9-]+).*/\1 \3/p' crates/demands/specs/Decided.antt | sort | same
+    {
+        contracts | sed 's/.*/& &/'
+        sed -nE 's/^abbrev pub ([a-z0-9-]+) : \(.* → List ℤ → Type 0\) → .*/\1-row \1/p' "$specs/Every.antt"
+    } | sort >target/tests/expected
+    sed -nE 's/^  pub ([a-z0-9-]+) : One(In)? Contracts\.([a-z0-9-]+).*/\1 \3/p' "$specs/Decided.antt" | sort | same
 }
 
 # Each contract asks for nothing.
 all_free() {
     contracts | sed 's/.*/& &/' >target/tests/expected
-    sed -nE 's/^  pub ([a-z0-9-]+) : AsksNothing Contracts\.([a-z0-9-]+)$/\1 \2/p' crates/demands/specs/Free.antt | sort | same
+    sed -nE 's/^  pub ([a-z0-9-]+) : AsksNothing Contracts\.([a-z0-9-]+)$/\1 \2/p' "$specs/Free.antt" | sort | same
 }
 
 # What each function of the C face takes and gives, in the header's order.
 all_wide() {
     sed -nE 's/^fw_[a-z_]+ (fw_[a-z]+)\(.*/\1/p' include/fordwhistle.h | tr _ - | sed 's/.*/Takes &\nGives &/' >target/tests/expected
-    sed -nE 's/^  pub [a-z-]+ : (Takes|Gives) Contracts\.([a-z-]+) .*/\1 \2/p' crates/demands/specs/Widths.antt | same
+    sed -nE 's/^  pub [a-z-]+ : (Takes|Gives) Contracts\.([a-z-]+) .*/\1 \2/p' "$specs/Widths.antt" | same
 }
 
 # Each edit has its row among those that say why it is refused, with what makes it honest, and each row its edit.
@@ -93,7 +104,8 @@ all_explained() {
 
 # copied: a copy of the crates, with what is proved of them.
 copied() {
-    rm -rf "$copy" && mkdir -p "$copy/target" && cp -R crates crates.txt "$copy" && cp -R target/rlib target/stamp "$copy/target"
+    rm -rf "$copy" && mkdir -p "$copy/target" && cp -R crates crates.txt "$copy" &&
+        cp -R target/rlib target/stamp "$copy/target"
 }
 
 # proved CRATE: whether the copy's crate is proved.
@@ -101,14 +113,16 @@ proved() {
     (cd "$copy" && rt check "$1") >target/tests/weakened.log 2>&1
 }
 
-# refused_at PATTERN FILE..: whether the copy's demands are refused, at just those lines of these files that have the pattern, and elsewhere for no
-# reason but that these are.
+# refused_at PATTERN FILE..: whether the copy's demands are refused, at just those lines of these files that have the
+# pattern, and elsewhere for no reason but that these are.
 refused_at() {
     local pattern=$1
     shift
-    (cd crates/demands/proofs && grep -HnE "$pattern" "$@") | cut -d: -f1,2 | sort >target/tests/expected
+    (cd "$proofs" && grep -HnE "$pattern" "$@") | cut -d: -f1,2 | sort >target/tests/expected
     (cd "$copy" && rt check demands) >target/tests/weakened.log 2>&1
-    [ "$?" -eq 1 ] && sed -nE '/was not admitted/d; s/^.*crates\/demands\/proofs\/([A-Za-z0-9]+\.antt:[0-9]+):[0-9]+: error.*/\1/p' target/tests/weakened.log | sort -u | same
+    [ "$?" -eq 1 ] && sed -nE '/was not admitted/d
+        s/^.*crates\/demands\/proofs\/([A-Za-z0-9]+\.antt:[0-9]+):[0-9]+: error.*/\1/p' target/tests/weakened.log |
+        sort -u | same
 }
 
 # The functions of the C face answer as they do, but their contracts tell nothing.
@@ -118,17 +132,20 @@ untold() {
 
 # Two of them take 16 bits where the header has 32.
 narrowed() {
-    copied && sed -i -E '/fn fw_record\(/s/number: u32/number: u16/; s/record_place\(bytes, number\)/record_place(bytes, number as u32)/
-        /fn fw_imbalance\(/s/x: u32/x: u16/; s/imbalance\(answer.section, x\)/imbalance(answer.section, x as u32)/' "$copy/crates/panel/src/lib.rt" &&
+    copied && sed -i -E '/fn fw_record\(/s/number: u32/number: u16/
+        s/record_place\(bytes, number\)/record_place(bytes, number as u32)/
+        /fn fw_imbalance\(/s/x: u32/x: u16/
+        s/imbalance\(answer.section, x\)/imbalance(answer.section, x as u32)/' "$copy/crates/panel/src/lib.rt" &&
         [ "$(grep -c 'u16' "$copy/crates/panel/src/lib.rt")" -eq 3 ]
 }
 
 # The laws are of the rounded stresses in place of the exact ones, and allow twice the area.
 hollow() {
-    copied && sed -i -E 's/^(area s =) (.*)/\1 2 * (\2)/
-        s/Over C \((strip i|bar j)\) \((.*)\)\)/\1 ≡ pos C *ℤ rounded (\2))/
-        s/^(  (strip|bar)-near [ij] h =) stress-within .* (\((strips|bars) [ij] h\))$/\1 rw \3 (within-wider (within-exact C _) some (omega arith))/' "$copy/crates/balance/proofs/Rounded.antt" &&
-        [ "$(diff crates/balance/proofs/Rounded.antt "$copy/crates/balance/proofs/Rounded.antt" | grep -c '^>')" -eq 5 ]
+    local laws=crates/balance/proofs/Rounded.antt near='rw \3 (within-wider (within-exact C _) some (omega arith))'
+    copied && sed -i -E "s/^(area s =) (.*)/\\1 2 * (\\2)/
+        s/Over C \\((strip i|bar j)\\) \\((.*)\\)\\)/\\1 ≡ pos C *ℤ rounded (\\2))/
+        s/^(  (strip|bar)-near [ij] h =) stress-within .* (\\((strips|bars) [ij] h\\))$/\\1 $near/" "$copy/$laws" &&
+        [ "$(diff "$laws" "$copy/$laws" | grep -c '^>')" -eq 5 ]
 }
 
 check 'every public function is read' all_read
@@ -141,12 +158,14 @@ check 'each of the C face has its widths' all_wide
 check 'every edit is explained' all_explained
 check 'a face that tells nothing can be made' untold
 check 'and proved' proved panel
-check 'the statements of it fail, and no other' refused_at '^  fw-[a-z-]+ = ' Decided.antt Demand1.antt Demand2.antt Demand3.antt
+check 'the statements of it fail, and no other' \
+    refused_at '^  fw-[a-z-]+ = ' Decided.antt Demand1.antt Demand2.antt Demand3.antt
 check 'a narrower face can be made' narrowed
 check 'and proved' proved panel
 check 'its widths are refused, and no other statement' refused_at '^  fw-(record|imbalance) = ' Widths.antt
 check 'laws on hollow exact sums can be made' hollow
 check 'and proved' proved balance
-check 'the statements on exact sums fail, and no other' refused_at '^  (imbalance-is-near|moment-is-near|clearly-above|clearly-below) e = ' Demand3.antt
+check 'the statements on exact sums fail, and no other' \
+    refused_at '^  (imbalance-is-near|moment-is-near|clearly-above|clearly-below) e = ' Demand3.antt
 rm -rf "$copy"
 verdict

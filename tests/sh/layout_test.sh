@@ -1,5 +1,5 @@
 #!/usr/bin/env bash
-# Each struct of the header has the fields of the source's in their order: every field lies at one offset in both (tests/layout).
+# Each struct of the header has the source's fields in their order, and each function its parameters (tests/layout).
 set -eu
 cd "$(dirname "$0")/../.."
 mkdir -p target/tests
