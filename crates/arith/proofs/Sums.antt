@@ -5,23 +5,16 @@ use mathlib.Core.Logic.{⊎-elim}
 use native.Mathlib.Nat as NatL
 use native.Mathlib.Numerals.{add-one}
 use native.Mathlib.Omega.{arith}
-use lib.IntN.{ℤ, pos, natAbs, _+ℤ_}
+use lib.IntN.{ℤ, pos, natAbs, _+ℤ_, +ℤ-idr, +ℤ-assoc}
 use mir.Syntax.{w64}
 use mir.Val.{SFits}
 use Rattle.arith.specs.Sums.{sumN, sumZ, after}
+use Rattle.arith.proofs.Signed.{abs-add}
 use Rattle.arith.proofs.Machine.{back, Stands, stands, stands-add, stands-fits, stored, returned, stands-for}
 
 pub sum-next : (f : ℕ → ℕ) (n : ℕ) → sumN (n + 1) f ≡ sumN n f + f n
 unfolding sumN
 sum-next f n = rw add-one
-
--- the terms from one on, and one more
-pub run-next : (f : ℕ → ℕ) (from i : ℕ) → from ≤ i → sumN (i + 1 - from) (after from f) ≡ sumN (i - from) (after from f) + f i
-unfolding sumN
-run-next f from i h =
-    let one : i + 1 - from ≡ (i - from) + 1 = omega arith in
-    let here : from + (i - from) ≡ i = omega arith in
-    rw one (sum-next (after from f) (i - from) ∙ ap (λ n. sumN (i - from) (after from f) + f n) here)
 
 runs-joined : (f : ℕ → ℕ) (from m n : ℕ) → sumN (m + n) (after from f) ≡ sumN m (after from f) + sumN n (after (from + m) f)
 unfolding sumN
@@ -44,35 +37,9 @@ run-flat f c from (suc n) h = rw (run-flat f c from n (λ i p q. h i p (omega ar
 pub sum-alike : (n c : ℕ) → sumN n (λ i. c) ≡ c * n
 sum-alike n c = run-flat (λ i. c) c 0 n (λ i p q. refl)
 
-run-none : (f : ℕ → ℕ) (from : ℕ) → sumN 0 (after from f) ≡ 0
-unfolding sumN
-run-none f from = refl
-
 -- a run of none
 pub run-nil : (f : ℕ → ℕ) (from to : ℕ) → ((i : ℕ) → from ≤ i → i < to → f i ≡ 0) → 0 ≡ sumN (to - from) (after from f)
 run-nil f from to h = sym (run-flat f 0 from (to - from) (λ i p q. h i p (omega arith)) ∙ NatL.zero-mul (to - from))
-
--- a run whose first terms are alike
-pub run-level :
-    (f : ℕ → ℕ) (c from start to : ℕ) → from ≤ start → start ≤ to → ((i : ℕ) → from ≤ i → i < start → f i ≡ c)
-    → c * (start - from) + sumN (to - start) (after start f) ≡ sumN (to - from) (after from f)
-run-level f c from start to h k first =
-    omega (arith, run-cut f from start to h k, run-flat f c from (start - from) (λ i p q. first i p (omega arith)))
-
--- a run whose last terms are none
-pub run-early :
-    (f : ℕ → ℕ) (from end to : ℕ) → from ≤ end → end ≤ to → ((i : ℕ) → end ≤ i → i < to → f i ≡ 0)
-    → sumN (end - from) (after from f) ≡ sumN (to - from) (after from f)
-run-early f from end to h k last = omega (arith, run-cut f from end to h k, run-nil f end to last)
-
--- a run whose first terms are none
-pub run-late :
-    (f : ℕ → ℕ) (from start to : ℕ) → from ≤ start → ((i : ℕ) → from ≤ i → i < start → f i ≡ 0)
-    → sumN (to - start) (after start f) ≡ sumN (to - from) (after from f)
-run-late f from start to h first =
-    ⊎-elim (λ z. rw z (run-none f start ∙ run-nil f from to (λ i p q. first i p (omega arith))))
-    (λ z. omega (arith, run-cut f from start to h (omega arith), run-nil f from start first))
-    (NatL.eq-zero-or-pos (to - start))
 
 -- ---- two sums, term by term
 pub sum-same : (f g : ℕ → ℕ) (n : ℕ) → ((i : ℕ) → i < n → f i ≡ g i) → sumN n f ≡ sumN n g
@@ -82,18 +49,6 @@ sum-same f g (suc n) h = rw (sum-same f g n (λ i k. h i (omega arith)), h n (om
 
 pub run-same : (f g : ℕ → ℕ) (from to : ℕ) → ((i : ℕ) → from ≤ i → i < to → f i ≡ g i) → sumN (to - from) (after from f) ≡ sumN (to - from) (after from g)
 run-same f g from to h = sum-same (after from f) (after from g) (to - from) (λ i k. h (from + i) (omega arith) (omega arith))
-
--- each term of one by so much more than the other's
-pub sum-raised : (n c : ℕ) (f g : ℕ → ℕ) → ((i : ℕ) → i < n → f i ≡ c + g i) → c * n + sumN n g ≡ sumN n f
-unfolding sumN
-sum-raised zero c f g h = omega arith
-sum-raised (suc n) c f g h = omega (arith, sum-raised n c f g (λ i k. h i (omega arith)), h n (omega arith), NatL.mul-suc c n)
-
--- terms that make so much together
-pub sum-pairs : (n c : ℕ) (f g : ℕ → ℕ) → ((i : ℕ) → i < n → f i + g i ≡ c) → sumN n f + sumN n g ≡ c * n
-unfolding sumN
-sum-pairs zero c f g h = omega arith
-sum-pairs (suc n) c f g h = omega (arith, sum-pairs n c f g (λ i k. h i (omega arith)), h n (omega arith), NatL.mul-suc c n)
 
 -- the same terms, from the last to the first
 sum-first : (n : ℕ) (f : ℕ → ℕ) → sumN (suc n) f ≡ f 0 + sumN n (λ i. f (suc i))
@@ -109,17 +64,30 @@ sum-back (suc n) f g h =
     omega (arith, sum-first n g, sum-back n f (λ i. g (suc i)) (λ i k. ap f (omega arith) ∙ h (suc i) (omega arith)))
 
 -- ---- how large a sum gets
-pub sum-within : (n B : ℕ) (f : ℕ → ℕ) → ((i : ℕ) → i < n → f i ≤ B) → sumN n f ≤ B * n
-unfolding sumN
-sum-within zero B f h = omega arith
-sum-within (suc n) B f h = omega (arith, sum-within n B f (λ i k. h i (omega arith)), h n (omega arith), NatL.mul-suc B n)
-
 pub sum-most : (n B : ℕ) (f : ℕ → ℕ) → ((i : ℕ) → f i ≤ B) → sumN n f ≤ B * n
-sum-most n B f h = sum-within n B f (λ i k. h i)
+unfolding sumN
+sum-most zero B f h = omega arith
+sum-most (suc n) B f h = omega (arith, sum-most n B f h, h n, NatL.mul-suc B n)
 
 pub sum-none : (f : ℕ → ℤ) → sumZ 0 f ≡ pos 0
 unfolding sumZ
 sum-none f = refl
+
+-- ---- signed sums: how large they get; a run, cut in two
+pub signed-most : (n B : ℕ) (f : ℕ → ℤ) → ((i : ℕ) → natAbs (f i) ≤ B) → natAbs (sumZ n f) ≤ B * n
+unfolding sumZ
+signed-most zero B f h = omega arith
+signed-most (suc n) B f h = omega (arith, signed-most n B f h, h n, abs-add (sumZ n f) (f n), NatL.mul-suc B n)
+
+signed-joined : (f : ℕ → ℤ) (from m n : ℕ) → sumZ (m + n) (after from f) ≡ sumZ m (after from f) +ℤ sumZ n (after (from + m) f)
+unfolding sumZ
+signed-joined f from m zero = rw (NatL.add-zero m) (sym (+ℤ-idr (sumZ m (after from f))))
+signed-joined f from m (suc n) = rw (NatL.add-suc m n, signed-joined f from m n, ← NatL.add-assoc from m n) (+ℤ-assoc (sumZ m (after from f)) (sumZ n (after (from + m) f)) (f (from + m + n)))
+
+pub signed-cut : (f : ℕ → ℤ) (from mid to : ℕ) → from ≤ mid → mid ≤ to → sumZ (to - from) (after from f) ≡ sumZ (mid - from) (after from f) +ℤ sumZ (to - mid) (after mid f)
+signed-cut f from mid to h k =
+    ap (λ n. sumZ n (after from f)) (omega arith) ∙ signed-joined f from (mid - from) (to - mid)
+    ∙ ap (λ n. sumZ (mid - from) (after from f) +ℤ sumZ (to - mid) (after n f)) (omega arith)
 
 -- ---- a signed sum that a loop adds up: z stands for the sum of the first n terms, each of a size of at most B
 pub record Running (f : ℕ → ℤ) (B n : ℕ) (z : ℤ) : Type 0 where

@@ -13,12 +13,13 @@ use Rattle.section.specs.declared.Section.{Section}
 use Rattle.section.specs.Refusal.{line, sectionRefusal}
 use Rattle.section.proofs.Lines.{passed, none-of, only-first}
 use Rattle.section.proofs.Accepted.{accepted}
-use Rattle.balance.specs.declared.Listing.{Listing}
-use Rattle.balance.specs.Forces.{moment}
-use Rattle.balance.specs.Depths.{lastDepth, kindAt, entryOf, listed, words, written}
-use Rattle.balance.specs.Answers.{depthsRefusal, listRefusal, listAnswer, rowAfter}
-use Rattle.balance.proofs.Answers.{list-number, list-count, row-written}
-use Rattle.balance.proofs.Listed.{count-most, words-length, wordsOf, word-of}
+use Rattle.section.specs.Has.{lastDepth}
+use Rattle.forces.specs.Forces.{moment}
+use Rattle.depths.specs.declared.Listing.{Listing}
+use Rattle.depths.specs.Depths.{kindAt, entryOf, listed, words, written}
+use Rattle.depths.specs.Answers.{depthsRefusal, listRefusal, listAnswer, rowAfter}
+use Rattle.depths.proofs.Listed.{count-most, words-length, wordsOf, word-of}
+use Rattle.depths.proofs.Answers.{list-number, list-count, row-written}
 use Rattle.booklines.specs.Line.{leastTo, noBending, bendingAnswer}
 use Rattle.booklines.proofs.Least.{least-alike}
 

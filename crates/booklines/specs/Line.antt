@@ -7,9 +7,10 @@ use lib.ListN.{length}
 use lib.Signed.{ltZ}
 use Rattle.arith.specs.Answers.{unlessRefused}
 use Rattle.section.specs.declared.Section.{Section}
-use Rattle.balance.specs.declared.Amount.{Amount}
-use Rattle.balance.specs.Depths.{Entry, entryOf, listed}
-use Rattle.balance.specs.Answers.{noAmount, depthsRefusal}
+use Rattle.section.specs.declared.Amount.{Amount}
+use Rattle.section.specs.Amount.{noAmount}
+use Rattle.depths.specs.Depths.{Entry, entryOf, listed}
+use Rattle.depths.specs.Answers.{depthsRefusal}
 use Rattle.shear.specs.Shear.{shearAnswer}
 use Rattle.book.specs.Record.{ofRecord}
 use Rattle.booklines.specs.declared.Bending.{Bending}

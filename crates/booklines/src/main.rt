@@ -4,9 +4,9 @@ ghost use Prim.Native.Nat.{_+_, _*_, _-_, _≤_, _<_};
 ghost use lib.IntN.{pos, natAbs};
 ghost use lib.ListN.{length, getD};
 ghost use Rattle.booklines.specs.Line.{leastTo, noBending, bendingAnswer, lineOf};
-use balance::Amount;
 use libc::STDIN_FILENO;
 use libc::STDOUT_FILENO;
+use section::Amount;
 use section::Section;
 
 struct Bending {
@@ -64,7 +64,7 @@ fn bending_of(section: Section) -> Bending
     ensures { λ r. ⌜ r ≡ bendingAnswer section ⌝ }
 {
     let mut row = row();
-    let listing = balance::depths(section, &mut row);
+    let listing = depths::depths(section, &mut row);
     if listing.refusal != 0 {
         return Bending::refused(listing.refusal);
     }

@@ -18,12 +18,13 @@ use Rattle.law.specs.Law as Law
 use Rattle.drawn.specs.declared.Drawn.{Drawn}
 use Rattle.drawn.specs.Drawn.{noPoint, drawnRefusal, drawnAnswer}
 use Rattle.drawn.specs.Drawn as Drawn
-use Rattle.balance.specs.declared.Amount.{Amount}
-use Rattle.balance.specs.declared.Listing.{Listing}
-use Rattle.balance.specs.Depths.{listed}
-use Rattle.balance.specs.Answers.{gridRefusal, amountAnswer, unlisted, listAnswer, rowAfter}
-use Rattle.balance.proofs.Answers.{list-number, list-needed, list-none}
-use Rattle.balance.proofs.Shown.{row-kept}
+use Rattle.section.specs.declared.Amount.{Amount}
+use Rattle.forces.specs.Answers.{gridRefusal, amountAnswer}
+use Rattle.depths.specs.declared.Listing.{Listing}
+use Rattle.depths.specs.Depths.{listed}
+use Rattle.depths.specs.Answers.{unlisted, listAnswer, rowAfter}
+use Rattle.depths.proofs.Answers.{list-number, list-needed, list-none}
+use Rattle.depths.proofs.Shown.{row-kept}
 use Rattle.shear.specs.Shear.{shearRefusal, shearAnswer}
 use Rattle.book.specs.declared.BookAnswer.{BookAnswer}
 use Rattle.book.specs.declared.RecordAnswer.{RecordAnswer}

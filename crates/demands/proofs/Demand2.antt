@@ -1,10 +1,11 @@
 -- Demand 2, by what each contract tells. Assumes nothing.
-use Prim.Native.Nat.{ℕ, _-_}
+use Prim.Native.Nat.{ℕ, _-_, _≤_}
 use mathlib.Core.Path.{_≡_, refl, sym, ap, _∙_}
 use mathlib.Core.List.{List}
 use native.Mathlib.Nat.{add-sub-cancel-left}
 use lib.IntN.{ℤ, pos}
 use lib.ListN.{length}
+use Rattle.arith.specs.Sums.{sumZ, after}
 use Rattle.section.specs.declared.Layer.{Layer}
 use Rattle.section.specs.declared.Section.{Section}
 use Rattle.section.specs.declared.Added.{Added}
@@ -13,6 +14,7 @@ use Rattle.section.specs.Accepted.{Accepted}
 use Rattle.section.specs.Added.{layerRefusal, withLayer, addedAnswer}
 use Rattle.section.proofs.Accepted.{layers-are, accepted-exactly}
 use Rattle.section.proofs.Inserted.{layers-added, added-right}
+use Rattle.law.specs.declared.Law.{Law}
 use Rattle.law.specs.declared.LawAnswer.{LawAnswer}
 use Rattle.law.specs.Law.{lawOf, lawAnswer}
 use Rattle.law.specs.Law as Law
@@ -24,10 +26,18 @@ use Rattle.drawn.specs.declared.Drawn.{Drawn}
 use Rattle.drawn.specs.Drawn.{pointAt, drawnRefusal, drawn, drawnAnswer}
 use Rattle.drawn.specs.Drawn as Drawn
 use Rattle.drawn.proofs.Within.{point-near}
-use Rattle.balance.specs.declared.Amount.{Amount}
-use Rattle.balance.specs.declared.Listing.{Listing}
-use Rattle.balance.specs.Answers.{answered, listAnswer, rowAfter}
-use Rattle.balance.proofs.Answers.{amount-is, list-number, list-count, row-written}
+use Rattle.strips.specs.declared.Axis.{Axis}
+use Rattle.strips.specs.declared.Range.{Range}
+use Rattle.strips.specs.Strips.{stripAt}
+use Rattle.strips.specs.Bounds.{boundsOf}
+use Rattle.strips.proofs.Within.{bounds-hold}
+use Rattle.forces.proofs.Strains.{axis-is}
+use Rattle.section.specs.declared.Amount.{Amount}
+use Rattle.section.specs.Amount.{answered}
+use Rattle.forces.proofs.Answers.{amount-is}
+use Rattle.depths.specs.declared.Listing.{Listing}
+use Rattle.depths.specs.Answers.{listAnswer, rowAfter}
+use Rattle.depths.proofs.Answers.{list-number, list-count, row-written}
 use Rattle.shear.specs.Shear.{resistance, shearRefusal, shearAnswer}
 use Rattle.shear.proofs.Theorems.{square-root, cube-root, axial-floor}
 use Rattle.book.specs.declared.BookAnswer.{BookAnswer}
@@ -44,11 +54,14 @@ use Rattle.class.specs.Class.{classRefusal, classAnswer}
 use Rattle.class.specs.Class as Class
 use Rattle.panel.specs.Face.{drawnOf, imbalanceOf, momentOf, listOf, rowOf, shearOf}
 use Rattle.demands.specs.Table.{First, askedLines}
-use Rattle.demands.specs.Demand2.{LayerAdded, ZeroPast, ClassIs, PointIs, ListIs, PlaceIs, Demand2}
+use Rattle.demands.specs.Demand2.{Between, LayerAdded, ZeroPast, ClassIs, PointIs, ListIs, PlaceIs, Demand2}
 use Rattle.demands.proofs.Shapes.{sections, points, amounts, listings, books, places, records, classes, grants}
 use Rattle.demands.proofs.Table.{exactly, asked-first}
 
 -- ---- each answer where it is not refused
+bounds-are : (l : Law) (a : Axis) (from to : ℕ) {x : Range} → x ≡ boundsOf l a from to → from ≤ to → to ≤ 65535 → Between (sumZ (to - from) (after from (stripAt l a))) x
+bounds-are l a from to is h few = let b = bounds-hold l a from to h few in rw is (b .above, b .below)
+
 small-size : {s : Section} → Accepted s → (t : Stress) → sizeIn (lawOf s) t ≡ size t
 unfolding sizeIn
 small-size a t = rw (small-law a)
@@ -120,6 +133,8 @@ unfolding drawnOf imbalanceOf momentOf shearOf
 demand2 = record {
   section-refusal = λ κs a x e p. rw p (accepted-exactly (a .0));
   with-layer = λ κs a x e p. layer-is (a .0) _ p;
+  last-depth = λ κs a x e p. p;
+  steel-area = λ κs a x e p. p .0;
   law-of = λ κs a x e p. law-is (a .0) p;
   concrete-size = λ κs a x e p. p;
   bar-size = λ κs a x e p. p;
@@ -127,8 +142,9 @@ demand2 = record {
   piece-at = λ κs a x e p. p;
   draw = λ κs a x e p. point-is (a .0) (a .1 .0) p;
   strip = λ κs a x e p. p;
-  compressed = λ κs a x e p. p;
-  stretched = λ κs a x e p. p;
+  bounds = λ κs a x e p. bounds-are (a .0) (a .1 .0) (a .1 .1 .0) (a .1 .1 .1 .0) p;
+  axis-at = λ κs a x e p s ok is from to. axis-is ok is to p;
+  bar = λ κs a x e p. p;
   imbalance-is = λ κs a x e p. amount-is (a .0) (a .1 .0) _ p;
   moment-is = λ κs a x e p. amount-is (a .0) (a .1 .0) _ p;
   depths = λ κs a x e p. list-is (a .0) (a .1 .0 .now) (p .0) (p .1);

@@ -1,4 +1,4 @@
--- Demand 3, by the theorems of `balance`. Assumes nothing.
+-- Demand 3, by the theorems of `forces` and `depths`. Assumes nothing.
 use Prim.Native.Nat.{ℕ, _+_, _*_, _≤_}
 use mathlib.Core.Path.{_≡_}
 use mathlib.Core.Logic.{_⊎_, ⊎-map}
@@ -12,17 +12,18 @@ use Rattle.section.specs.Refusal.{sectionRefusal}
 use Rattle.section.specs.Accepted.{Accepted}
 use Rattle.section.proofs.Accepted.{accepted, accepts}
 use Rattle.law.specs.Law.{lawOf}
-use Rattle.balance.specs.declared.Amount.{Amount}
-use Rattle.balance.specs.declared.Listing.{Listing}
-use Rattle.balance.specs.Forces.{stripStress, barStress, imbalance, moment}
-use Rattle.balance.specs.Depths.{Entry, listed}
-use Rattle.balance.specs.Row.{Shown}
-use Rattle.balance.specs.Answers.{imbalanceAnswer, momentAnswer, listAnswer, rowAfter}
-use Rattle.balance.proofs.Common.{over, common, common-positive, strip-over, bar-over}
-use Rattle.balance.proofs.Rounded.{imbalance-close, moment-close, above, below}
-use Rattle.balance.proofs.Theorems.{listed-exactly, pair-listed, zero-listed, last-zero-listed}
-use Rattle.balance.proofs.Answers.{amount-is, on-grid}
-use Rattle.balance.proofs.Shown.{counted, fourteen, fifteen, words-stay, same-length, shown-exactly, shown-rising}
+use Rattle.section.specs.declared.Amount.{Amount}
+use Rattle.forces.specs.Forces.{stripStress, barStress, imbalance, moment}
+use Rattle.forces.specs.Answers.{imbalanceAnswer, momentAnswer}
+use Rattle.forces.proofs.Common.{over, common, common-positive, strip-over, bar-over}
+use Rattle.forces.proofs.Rounded.{imbalance-close, moment-close, above, below}
+use Rattle.forces.proofs.Answers.{amount-is, on-grid}
+use Rattle.depths.specs.declared.Listing.{Listing}
+use Rattle.depths.specs.Depths.{Entry, listed}
+use Rattle.depths.specs.Row.{Shown}
+use Rattle.depths.specs.Answers.{listAnswer, rowAfter}
+use Rattle.depths.proofs.Theorems.{listed-exactly, pair-listed, zero-listed, last-zero-listed}
+use Rattle.depths.proofs.Shown.{counted, fourteen, fifteen, words-stay, same-length, shown-exactly, shown-rising}
 use Rattle.book.specs.Record.{recordRefusal, sectionIn}
 use Rattle.book.specs.Good.{StandsAlone}
 use Rattle.book.proofs.Good.{record-stands}

@@ -16,9 +16,10 @@ use Rattle.law.specs.Law as Law
 use Rattle.drawn.specs.declared.Drawn.{Drawn}
 use Rattle.drawn.specs.Drawn.{noPoint}
 use Rattle.drawn.specs.Drawn as Drawn
-use Rattle.balance.specs.declared.Amount.{Amount}
-use Rattle.balance.specs.declared.Listing.{Listing}
-use Rattle.balance.specs.Answers.{noAmount, unlisted}
+use Rattle.section.specs.declared.Amount.{Amount}
+use Rattle.section.specs.Amount.{noAmount}
+use Rattle.depths.specs.declared.Listing.{Listing}
+use Rattle.depths.specs.Answers.{unlisted}
 use Rattle.book.specs.declared.BookAnswer.{BookAnswer}
 use Rattle.book.specs.declared.RecordAnswer.{RecordAnswer}
 use Rattle.book.specs.declared.SectionAnswer.{SectionAnswer}

@@ -17,9 +17,11 @@ use Rattle.section.proofs.Lines.{between}
 use Rattle.section.proofs.Accepted.{concrete-is, sizes-are, steel-is, fibres-are, load-is, bars-are, stirrups-are, layer-line, takes-layer}
 use Rattle.drawn.specs.Drawn.{drawnRefusal}
 use Rattle.drawn.proofs.Strains.{drawable-is}
-use Rattle.balance.specs.Depths.{lastDepth, listed, SomeDepth}
-use Rattle.balance.specs.Answers.{gridRefusal, depthsRefusal, listRefusal}
-use Rattle.balance.proofs.Theorems.{some-depth}
+use Rattle.section.specs.Has.{lastDepth}
+use Rattle.forces.specs.Answers.{gridRefusal}
+use Rattle.depths.specs.Depths.{listed, SomeDepth}
+use Rattle.depths.specs.Answers.{depthsRefusal, listRefusal}
+use Rattle.depths.proofs.Theorems.{some-depth}
 use Rattle.shear.specs.Shear.{shearRefusal}
 use Rattle.book.specs.Record.{recordRefusal}
 use Rattle.book.specs.Book.{countOf, bookRefusal, askedRefusal}

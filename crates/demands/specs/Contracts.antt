@@ -7,6 +7,12 @@ use Rattle.section.proofs.Section.refusal.Kinds as SectionRefusal
 use Rattle.section.proofs.Section.refusal.Reads as SectionRefusalReads
 use Rattle.section.proofs.Section.with_layer.Kinds as WithLayer
 use Rattle.section.proofs.Section.with_layer.Reads as WithLayerReads
+use Rattle.section.proofs.Section.last_depth.Kinds as LastDepth
+use Rattle.section.proofs.Section.last_depth.Reads as LastDepthReads
+use Rattle.section.proofs.Section.steel_area.Kinds as SteelArea
+use Rattle.section.proofs.Section.steel_area.Reads as SteelAreaReads
+use Rattle.section.proofs.Amount.refused.Kinds as AmountRefused
+use Rattle.section.proofs.Amount.refused.Reads as AmountRefusedReads
 use Rattle.law.proofs.Law.of.Kinds as LawOf
 use Rattle.law.proofs.Law.of.Reads as LawOfReads
 use Rattle.law.proofs.Law.concrete_size.Kinds as ConcreteSize
@@ -21,20 +27,20 @@ use Rattle.drawn.proofs.draw.Kinds as Draw
 use Rattle.drawn.proofs.draw.Reads as DrawReads
 use Rattle.strips.proofs.strip.Kinds as Strip
 use Rattle.strips.proofs.strip.Reads as StripReads
-use Rattle.strips.proofs.compressed.Kinds as Compressed
-use Rattle.strips.proofs.compressed.Reads as CompressedReads
-use Rattle.strips.proofs.stretched.Kinds as Stretched
-use Rattle.strips.proofs.stretched.Reads as StretchedReads
-use Rattle.balance.proofs.Amount.refused.Kinds as AmountRefused
-use Rattle.balance.proofs.Amount.refused.Reads as AmountRefusedReads
-use Rattle.balance.proofs.Listing.refused.Kinds as ListingRefused
-use Rattle.balance.proofs.Listing.refused.Reads as ListingRefusedReads
-use Rattle.balance.proofs.imbalance.Kinds as Imbalance
-use Rattle.balance.proofs.imbalance.Reads as ImbalanceReads
-use Rattle.balance.proofs.moment.Kinds as Moment
-use Rattle.balance.proofs.moment.Reads as MomentReads
-use Rattle.balance.proofs.depths.Kinds as Depths
-use Rattle.balance.proofs.depths.Reads as DepthsReads
+use Rattle.strips.proofs.bounds.Kinds as Bounds
+use Rattle.strips.proofs.bounds.Reads as BoundsReads
+use Rattle.forces.proofs.axis_at.Kinds as AxisAt
+use Rattle.forces.proofs.axis_at.Reads as AxisAtReads
+use Rattle.forces.proofs.bar.Kinds as Bar
+use Rattle.forces.proofs.bar.Reads as BarReads
+use Rattle.forces.proofs.imbalance.Kinds as Imbalance
+use Rattle.forces.proofs.imbalance.Reads as ImbalanceReads
+use Rattle.forces.proofs.moment.Kinds as Moment
+use Rattle.forces.proofs.moment.Reads as MomentReads
+use Rattle.depths.proofs.Listing.refused.Kinds as ListingRefused
+use Rattle.depths.proofs.Listing.refused.Reads as ListingRefusedReads
+use Rattle.depths.proofs.depths.Kinds as Depths
+use Rattle.depths.proofs.depths.Reads as DepthsReads
 use Rattle.shear.proofs.shear.Kinds as Shear
 use Rattle.shear.proofs.shear.Reads as ShearReads
 use Rattle.book.proofs.book.Kinds as Book
@@ -77,6 +83,15 @@ section-refusal = record { takes = SectionRefusal.ps; gives = SectionRefusal.r; 
 abbrev pub with-layer : Contract 0
 with-layer = record { takes = WithLayer.ps; gives = WithLayer.r; asked = WithLayerReads.Asked; told = WithLayerReads.Learnt }
 
+abbrev pub last-depth : Contract 0
+last-depth = record { takes = LastDepth.ps; gives = LastDepth.r; asked = LastDepthReads.Asked; told = LastDepthReads.Learnt }
+
+abbrev pub steel-area : Contract 0
+steel-area = record { takes = SteelArea.ps; gives = SteelArea.r; asked = SteelAreaReads.Asked; told = SteelAreaReads.Learnt }
+
+abbrev pub amount-refused : Contract 0
+amount-refused = record { takes = AmountRefused.ps; gives = AmountRefused.r; asked = AmountRefusedReads.Asked; told = AmountRefusedReads.Learnt }
+
 abbrev pub law-of : Contract 0
 law-of = record { takes = LawOf.ps; gives = LawOf.r; asked = LawOfReads.Asked; told = LawOfReads.Learnt }
 
@@ -98,23 +113,23 @@ draw = record { takes = Draw.ps; gives = Draw.r; asked = DrawReads.Asked; told =
 abbrev pub strip : Contract 0
 strip = record { takes = Strip.ps; gives = Strip.r; asked = StripReads.Asked; told = StripReads.Learnt }
 
-abbrev pub compressed : Contract 0
-compressed = record { takes = Compressed.ps; gives = Compressed.r; asked = CompressedReads.Asked; told = CompressedReads.Learnt }
+abbrev pub bounds : Contract 0
+bounds = record { takes = Bounds.ps; gives = Bounds.r; asked = BoundsReads.Asked; told = BoundsReads.Learnt }
 
-abbrev pub stretched : Contract 0
-stretched = record { takes = Stretched.ps; gives = Stretched.r; asked = StretchedReads.Asked; told = StretchedReads.Learnt }
+abbrev pub axis-at : Contract 0
+axis-at = record { takes = AxisAt.ps; gives = AxisAt.r; asked = AxisAtReads.Asked; told = AxisAtReads.Learnt }
 
-abbrev pub amount-refused : Contract 0
-amount-refused = record { takes = AmountRefused.ps; gives = AmountRefused.r; asked = AmountRefusedReads.Asked; told = AmountRefusedReads.Learnt }
-
-abbrev pub listing-refused : Contract 0
-listing-refused = record { takes = ListingRefused.ps; gives = ListingRefused.r; asked = ListingRefusedReads.Asked; told = ListingRefusedReads.Learnt }
+abbrev pub bar : Contract 0
+bar = record { takes = Bar.ps; gives = Bar.r; asked = BarReads.Asked; told = BarReads.Learnt }
 
 abbrev pub imbalance : Contract 0
 imbalance = record { takes = Imbalance.ps; gives = Imbalance.r; asked = ImbalanceReads.Asked; told = ImbalanceReads.Learnt }
 
 abbrev pub moment : Contract 0
 moment = record { takes = Moment.ps; gives = Moment.r; asked = MomentReads.Asked; told = MomentReads.Learnt }
+
+abbrev pub listing-refused : Contract 0
+listing-refused = record { takes = ListingRefused.ps; gives = ListingRefused.r; asked = ListingRefusedReads.Asked; told = ListingRefusedReads.Learnt }
 
 abbrev pub depths : Contract 1
 depths = record { takes = Depths.ps; gives = Depths.r; asked = DepthsReads.Asked; told = DepthsReads.Learnt }

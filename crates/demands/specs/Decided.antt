@@ -23,6 +23,9 @@ OneIn {n} c read =
 pub record Decided : Type 0 where
   pub section-refusal : One Contracts.section-refusal
   pub with-layer : One Contracts.with-layer
+  pub last-depth : One Contracts.last-depth
+  pub steel-area : One Contracts.steel-area
+  pub amount-refused : One Contracts.amount-refused
   pub law-of : One Contracts.law-of
   pub concrete-size : One Contracts.concrete-size
   pub bar-size : One Contracts.bar-size
@@ -30,12 +33,12 @@ pub record Decided : Type 0 where
   pub drawn-refused : One Contracts.drawn-refused
   pub draw : One Contracts.draw
   pub strip : One Contracts.strip
-  pub compressed : One Contracts.compressed
-  pub stretched : One Contracts.stretched
-  pub amount-refused : One Contracts.amount-refused
-  pub listing-refused : One Contracts.listing-refused
+  pub bounds : One Contracts.bounds
+  pub axis-at : One Contracts.axis-at
+  pub bar : One Contracts.bar
   pub imbalance : One Contracts.imbalance
   pub moment : One Contracts.moment
+  pub listing-refused : One Contracts.listing-refused
   pub depths : One Contracts.depths
   pub depths-row : OneIn Contracts.depths (λ κs x e. e .1 .0 .now)
   pub shear : One Contracts.shear

@@ -12,8 +12,8 @@ use lib.ListN.{length}
 use Rattle.section.specs.declared.Section.{Section}
 use Rattle.law.specs.Law.{noLaw}
 use Rattle.drawn.specs.Drawn.{noPoint}
-use Rattle.balance.specs.declared.Listing.{Listing}
-use Rattle.balance.specs.Depths.{listed}
+use Rattle.depths.specs.declared.Listing.{Listing}
+use Rattle.depths.specs.Depths.{listed}
 use Rattle.book.specs.Record.{noSection, sectionIn}
 use Rattle.demands.specs.Free.{Free}
 use Rattle.demands.specs.Every as Every

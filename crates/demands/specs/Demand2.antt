@@ -1,14 +1,16 @@
 -- Demand 2: a section with a layer added, class, stress, imbalance, moment and shear equal the rules to the last rounding; a record read from a book
 -- shows exactly the bytes filed.
-use Prim.Native.Nat.{ℕ, _+_, _*_, _≤_, _<_}
+use Prim.Native.Nat.{ℕ, _+_, _*_, _-_, _≤_, _<_}
 use mathlib.Core.Path.{_≡_}
-use mathlib.Core.Bool.{true, false}
+use mathlib.Core.Bool.{true}
 use mathlib.Core.Logic.{_↔_}
 use mathlib.Core.List.{List}
 use lib.Dec.{leb}
 use lib.IntN.{ℤ, pos, _*ℤ_}
 use lib.ListN.{length}
+use lib.Signed.{_≤ℤ_}
 use Rattle.arith.specs.Floor.{RoundsDown}
+use Rattle.arith.specs.Sums.{sumZ, after}
 use Rattle.arith.specs.Largest.{Largest, largest}
 use Rattle.section.specs.declared.Layer.{Layer}
 use Rattle.section.specs.declared.Section.{Section}
@@ -17,15 +19,17 @@ use Rattle.section.specs.Section.{noLayer, layerAt, layersOf}
 use Rattle.section.specs.Accepted.{LayersIn, Accepted}
 use Rattle.section.specs.Added.{inserted, withLayer}
 use Rattle.law.specs.Law.{lawOf}
-use Rattle.law.specs.Stress.{Stress, signed, size, concrete, bar}
+use Rattle.law.specs.Stress.{Stress, signed, size, rounded, concrete, bar}
 use Rattle.law.specs.Sizes.{sizeIn}
 use Rattle.drawn.specs.declared.Drawn.{Drawn}
 use Rattle.drawn.specs.Drawn.{PointNear, pointAt}
 use Rattle.drawn.specs.Pieces.{evaluated}
-use Rattle.strips.specs.Strips.{stripSize, runOf}
-use Rattle.balance.specs.declared.Listing.{Listing}
-use Rattle.balance.specs.Forces.{concreteArea, loadOf, imbalance, moment}
-use Rattle.balance.specs.Depths.{listed, written}
+use Rattle.strips.specs.declared.Range.{Range}
+use Rattle.strips.specs.Strips.{scaleOf, stripSize, stripAt}
+use Rattle.section.specs.Has.{concreteArea, steelArea, loadOf, lastDepth}
+use Rattle.forces.specs.Forces.{strainScale, barAt, imbalance, moment}
+use Rattle.depths.specs.declared.Listing.{Listing}
+use Rattle.depths.specs.Depths.{listed, written}
 use Rattle.shear.specs.Shear.{squared, cubed, axialShare, resistance}
 use Rattle.book.specs.declared.RecordAnswer.{RecordAnswer}
 use Rattle.book.specs.Record.{sizeAt, sectionIn}
@@ -59,11 +63,18 @@ ListIs s before x after = (x .count ≡ length (listed s)) × (after ≡ written
 abbrev pub PlaceIs : List ℕ → ℕ → RecordAnswer → Type 0
 PlaceIs bytes i x = (x .at ≡ startOf bytes i) × (x .len ≡ sizeAt bytes (startOf bytes i)) × (x .at + x .len ≤ length bytes) × Shows bytes i (partOf bytes (x .at) (x .len))
 
+-- a sum lies from one bound to the other
+abbrev pub Between : ℤ → Range → Type 0
+Between sum x = ((x .low) ≤ℤ sum) × (sum ≤ℤ (x .high))
+
 -- of every call of each public function that answers anything: what, where it does not refuse
 pub record Demand2 : Type 0 where
   -- a section
   pub section-refusal : Every.section-refusal (λ s x. (x ≡ 0) ↔ Accepted s)
   pub with-layer : Every.with-layer (λ s depth area x. x .refusal ≡ 0 → LayerAdded s (record { depth = depth; area = area }) x)
+  -- what it has: the grid's last depth, the area of layers below mid-height; of any section, and none is refused
+  pub last-depth : Every.last-depth (λ s x. x ≡ lastDepth s)
+  pub steel-area : Every.steel-area (λ s x. x ≡ steelArea s)
   -- its law, and the stress of concrete and bars at the strain 500 t / q; the 0 of `sizeIn` is only of a law that no section has
   pub law-of : Every.law-of (λ s x. x .refusal ≡ 0 → x .law ≡ lawOf s)
   pub concrete-size : Every.concrete-size (λ l pulls t q x. x ≡ sizeIn l (concrete l pulls (500 * t) q))
@@ -71,10 +82,13 @@ pub record Demand2 : Type 0 where
   pub sizes : (s : Section) → Accepted s → (t : Stress) → sizeIn (lawOf s) t ≡ size t
   pub piece-at : Every.piece-at (λ piece e x. x ≡ evaluated piece e)
   pub draw : Every.draw (λ s e x. x .refusal ≡ 0 → PointIs s e x)
-  -- strips, and the sums over them
+  -- the stress of a strip, and where the sum over a run of them lies, `to` not among them, of any law and axis
   pub strip : Every.strip (λ l axis i x. x ≡ signed (leb (axis .x) i) (stripSize l (leb (axis .x) i) axis i))
-  pub compressed : Every.compressed (λ l axis from to x. x ≡ runOf l false axis from to)
-  pub stretched : Every.stretched (λ l axis from to x. x ≡ runOf l true axis from to)
+  pub bounds : Every.bounds (λ l axis from to x. from ≤ to → to ≤ 65535 → Between (sumZ (to - from) (after from (stripAt l axis))) x)
+  -- the neutral axis at a depth of a section has its strains; the stress of a bar at a depth, rounded
+  pub axis-at : Every.axis-at (λ l d x. (s : Section) → Accepted s → l ≡ lawOf s → 1 ≤ d → d ≤ lastDepth s → (x .x ≡ d) × (scaleOf x ≡ strainScale (lawOf s) (x .x)))
+  pub bar : Every.bar (λ l axis depth x. x ≡ rounded (barAt l (scaleOf axis) (axis .x) depth))
+  -- the sums of a depth, and the list
   pub imbalance-is : Every.imbalance (λ s d x. x .refusal ≡ 0 → x .amount ≡ imbalance s d)
   pub moment-is : Every.moment (λ s d x. x .refusal ≡ 0 → x .amount ≡ moment s d)
   pub depths : Every.depths (λ s before x after. x .refusal ≡ 0 → ListIs s before x after)

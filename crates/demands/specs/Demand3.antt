@@ -13,10 +13,11 @@ use Rattle.section.specs.declared.Section.{Section}
 use Rattle.section.specs.Accepted.{Accepted}
 use Rattle.law.specs.Law.{lawOf}
 use Rattle.law.specs.Stress.{Stress, signed}
-use Rattle.balance.specs.declared.Listing.{Listing}
-use Rattle.balance.specs.Forces.{widthAt, depthAt, areaAt, loadOf, stripStress, barStress, imbalance, moment}
-use Rattle.balance.specs.Depths.{Entry, lastDepth, Balances, NoDepth}
-use Rattle.balance.specs.Row.{wordAt, Shown, howMany}
+use Rattle.section.specs.Has.{widthAt, depthAt, areaAt, loadOf, lastDepth}
+use Rattle.forces.specs.Forces.{stripStress, barStress, imbalance, moment}
+use Rattle.depths.specs.declared.Listing.{Listing}
+use Rattle.depths.specs.Depths.{Entry, Balances, NoDepth}
+use Rattle.depths.specs.Row.{wordAt, Shown, howMany}
 use Rattle.book.specs.Record.{sectionIn}
 use Rattle.book.specs.Good.{StandsAlone}
 use Rattle.demands.specs.Every as Every

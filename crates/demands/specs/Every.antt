@@ -15,8 +15,9 @@ use Rattle.law.specs.declared.LawAnswer.{LawAnswer}
 use Rattle.drawn.specs.declared.Piece.{Piece}
 use Rattle.drawn.specs.declared.Drawn.{Drawn}
 use Rattle.strips.specs.declared.Axis.{Axis}
-use Rattle.balance.specs.declared.Amount.{Amount}
-use Rattle.balance.specs.declared.Listing.{Listing}
+use Rattle.strips.specs.declared.Range.{Range}
+use Rattle.section.specs.declared.Amount.{Amount}
+use Rattle.depths.specs.declared.Listing.{Listing}
 use Rattle.book.specs.declared.BookAnswer.{BookAnswer}
 use Rattle.book.specs.declared.RecordAnswer.{RecordAnswer}
 use Rattle.book.specs.declared.SectionAnswer.{SectionAnswer}
@@ -36,6 +37,15 @@ section-refusal says = Tells Contracts.section-refusal (λ κs a x e. says (a .0
 
 abbrev pub with-layer : (Section → ℕ → ℕ → Added → Type 0) → Type 0
 with-layer says = Tells Contracts.with-layer (λ κs a x e. says (a .0) (a .1 .0) (a .1 .1 .0) x)
+
+abbrev pub last-depth : (Section → ℕ → Type 0) → Type 0
+last-depth says = Tells Contracts.last-depth (λ κs a x e. says (a .0) x)
+
+abbrev pub steel-area : (Section → ℕ → Type 0) → Type 0
+steel-area says = Tells Contracts.steel-area (λ κs a x e. says (a .0) x)
+
+abbrev pub amount-refused : (ℕ → Amount → Type 0) → Type 0
+amount-refused says = Tells Contracts.amount-refused (λ κs a x e. says (a .0) x)
 
 -- ---- law
 abbrev pub law-of : (Section → LawAnswer → Type 0) → Type 0
@@ -61,24 +71,25 @@ draw says = Tells Contracts.draw (λ κs a x e. says (a .0) (a .1 .0) x)
 abbrev pub strip : (Law → Axis → ℕ → ℤ → Type 0) → Type 0
 strip says = Tells Contracts.strip (λ κs a x e. says (a .0) (a .1 .0) (a .1 .1 .0) x)
 
-abbrev pub compressed : (Law → Axis → ℕ → ℕ → ℤ → Type 0) → Type 0
-compressed says = Tells Contracts.compressed (λ κs a x e. says (a .0) (a .1 .0) (a .1 .1 .0) (a .1 .1 .1 .0) x)
+abbrev pub bounds : (Law → Axis → ℕ → ℕ → Range → Type 0) → Type 0
+bounds says = Tells Contracts.bounds (λ κs a x e. says (a .0) (a .1 .0) (a .1 .1 .0) (a .1 .1 .1 .0) x)
 
-abbrev pub stretched : (Law → Axis → ℕ → ℕ → ℤ → Type 0) → Type 0
-stretched says = Tells Contracts.stretched (λ κs a x e. says (a .0) (a .1 .0) (a .1 .1 .0) (a .1 .1 .1 .0) x)
+-- ---- forces
+abbrev pub axis-at : (Law → ℕ → Axis → Type 0) → Type 0
+axis-at says = Tells Contracts.axis-at (λ κs a x e. says (a .0) (a .1 .0) x)
 
--- ---- balance: a list of words is a row, the one before the answer as it was lent, the one after it as it is left
-abbrev pub amount-refused : (ℕ → Amount → Type 0) → Type 0
-amount-refused says = Tells Contracts.amount-refused (λ κs a x e. says (a .0) x)
-
-abbrev pub listing-refused : (ℕ → Listing → Type 0) → Type 0
-listing-refused says = Tells Contracts.listing-refused (λ κs a x e. says (a .0) x)
+abbrev pub bar : (Law → Axis → ℕ → ℤ → Type 0) → Type 0
+bar says = Tells Contracts.bar (λ κs a x e. says (a .0) (a .1 .0) (a .1 .1 .0) x)
 
 abbrev pub imbalance : (Section → ℕ → Amount → Type 0) → Type 0
 imbalance says = Tells Contracts.imbalance (λ κs a x e. says (a .0) (a .1 .0) x)
 
 abbrev pub moment : (Section → ℕ → Amount → Type 0) → Type 0
 moment says = Tells Contracts.moment (λ κs a x e. says (a .0) (a .1 .0) x)
+
+-- ---- depths: a list of words is a row, the one before the answer as it was lent, the one after it as it is left
+abbrev pub listing-refused : (ℕ → Listing → Type 0) → Type 0
+listing-refused says = Tells Contracts.listing-refused (λ κs a x e. says (a .0) x)
 
 abbrev pub depths : (Section → List ℤ → Listing → List ℤ → Type 0) → Type 0
 depths says = Tells Contracts.depths (λ κs a x e. says (a .0) (a .1 .0 .now) x (e .1 .0 .now))

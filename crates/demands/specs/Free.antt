@@ -13,6 +13,9 @@ AsksNothing {n} c = (κs : Lfts n) (a : Dens κs (c .takes)) → c .asked κs a
 pub record Free : Type 0 where
   pub section-refusal : AsksNothing Contracts.section-refusal
   pub with-layer : AsksNothing Contracts.with-layer
+  pub last-depth : AsksNothing Contracts.last-depth
+  pub steel-area : AsksNothing Contracts.steel-area
+  pub amount-refused : AsksNothing Contracts.amount-refused
   pub law-of : AsksNothing Contracts.law-of
   pub concrete-size : AsksNothing Contracts.concrete-size
   pub bar-size : AsksNothing Contracts.bar-size
@@ -20,12 +23,12 @@ pub record Free : Type 0 where
   pub drawn-refused : AsksNothing Contracts.drawn-refused
   pub draw : AsksNothing Contracts.draw
   pub strip : AsksNothing Contracts.strip
-  pub compressed : AsksNothing Contracts.compressed
-  pub stretched : AsksNothing Contracts.stretched
-  pub amount-refused : AsksNothing Contracts.amount-refused
-  pub listing-refused : AsksNothing Contracts.listing-refused
+  pub bounds : AsksNothing Contracts.bounds
+  pub axis-at : AsksNothing Contracts.axis-at
+  pub bar : AsksNothing Contracts.bar
   pub imbalance : AsksNothing Contracts.imbalance
   pub moment : AsksNothing Contracts.moment
+  pub listing-refused : AsksNothing Contracts.listing-refused
   pub depths : AsksNothing Contracts.depths
   pub shear : AsksNothing Contracts.shear
   pub book : AsksNothing Contracts.book

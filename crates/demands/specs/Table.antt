@@ -9,7 +9,8 @@ use Rattle.section.specs.declared.Layer.{Layer}
 use Rattle.section.specs.declared.Section.{Section}
 use Rattle.section.specs.Accepted.{Between, ConcreteIn, SizesIn, SteelIn, FibresIn, LoadIn, BarsIn, TakesLayer, StirrupsIn}
 use Rattle.drawn.specs.Drawn.{Drawable}
-use Rattle.balance.specs.Depths.{lastDepth, listed, SomeDepth}
+use Rattle.section.specs.Has.{lastDepth}
+use Rattle.depths.specs.Depths.{listed, SomeDepth}
 use Rattle.book.specs.Book.{countOf}
 use Rattle.book.specs.Good.{LengthStands, LettersStand, IndexStands, RecordsStand, StandsAlone}
 use Rattle.class.specs.Class.{ClassIn}

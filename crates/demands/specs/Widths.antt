@@ -16,8 +16,8 @@ use Rattle.book.proofs.RecordAnswer as RecordAnswer
 use Rattle.class.proofs.ClassAnswer as ClassAnswer
 use Rattle.drawn.proofs.Point as Point
 use Rattle.drawn.proofs.Drawn as Drawn
-use Rattle.balance.proofs.Amount as Amount
-use Rattle.balance.proofs.Listing as Listing
+use Rattle.section.proofs.Amount as Amount
+use Rattle.depths.proofs.Listing as Listing
 use Rattle.demands.specs.Contracts.{Contract}
 use Rattle.demands.specs.Contracts as Contracts
 

@@ -1,5 +1,5 @@
 -- A whole strain: its side, its size, and the drawn range. Assumes nothing.
-use Prim.Native.Nat.{suc, _≤_}
+use Prim.Native.Nat.{suc, _^_, _≤_, _<_}
 use mathlib.Core.Path.{_≡_, refl, ap}
 use mathlib.Core.Bool.{true, false, true≢false}
 use native.Mathlib.Nat as NatL
@@ -18,7 +18,7 @@ use Rattle.law.specs.Edition.{edition}
 use Rattle.drawn.specs.Drawn.{Drawable, inDrawnRange}
 
 -- ---- its side and its size, as the machine finds them
-pub size-fits : (z : ℤ) → natAbs z ≤ 10000 → SFits w32 (pos (natAbs z))
+pub size-fits : (z : ℤ) → natAbs z < 2 ^ 31 → SFits w32 (pos (natAbs z))
 size-fits z h = record { sfits = omega arith }
 
 module _ (z : ℤ) (fits : SFits w32 z) where

@@ -1,7 +1,8 @@
 // The law as the panel draws it: pieces in f64, and a point of a section's law at a whole strain (document 01, 'Stress at a strain').
 ghost use mathlib.Core.Path.{_≡_};
-ghost use Prim.Native.Nat.{_≤_, _<_};
+ghost use Prim.Native.Nat.{_^_, _<_};
 ghost use lib.IntN.{natAbs};
+ghost use Rattle.law.specs.Edition.{edition};
 ghost use Rattle.drawn.specs.Drawn.{inDrawnRange, refused, drawnAnswer};
 ghost use Rattle.drawn.specs.Pieces.{evaluated, below, down, stretchedPiece, compressedPiece, pieceAt};
 use law::Law;
@@ -86,7 +87,7 @@ fn compressed_piece(l: Law, p: u32) -> Piece
 }
 
 fn piece_at(l: Law, strain: i32) -> Piece
-    requires { ⌜ natAbs strain ≤ 10000 ⌝ }
+    requires { ⌜ natAbs strain < 2 ^ 31 ⌝ }
     ensures { λ r. ⌜ r ≡ pieceAt l strain ⌝ }
 {
     if strain < 0 {
@@ -95,10 +96,11 @@ fn piece_at(l: Law, strain: i32) -> Piece
     compressed_piece(l, strain as u32)
 }
 
-fn drawable(strain: i32) -> bool
+fn drawable(l: Law, strain: i32) -> bool
+    requires { ⌜ l .drawn ≡ edition .drawnTension ⌝ }
     ensures { λ r. ⌜ r ≡ inDrawnRange strain ⌝ }
 {
-    (-10000 <= strain) & (strain <= 3500)
+    (-(l.drawn as i64) <= strain as i64) & (strain <= 3500)
 }
 
 impl Drawn {
@@ -124,7 +126,7 @@ pub fn draw(section: Section, strain: i32) -> Drawn
     if answer.refusal != 0 {
         return Drawn::refused(answer.refusal);
     }
-    if !drawable(strain) {
+    if !drawable(answer.law, strain) {
         return Drawn::refused(18);
     }
     let e = strain as f64;

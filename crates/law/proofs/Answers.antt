@@ -10,7 +10,7 @@ use Rattle.section.specs.Refusal.{sectionRefusal}
 use Rattle.section.proofs.Accepted.{accepted}
 use Rattle.law.specs.declared.Law.{Law}
 use Rattle.law.specs.declared.LawAnswer.{LawAnswer}
-use Rattle.law.specs.Law.{limitDepth, effectiveDepth, lawBy, lawOf, refused, lawAnswer}
+use Rattle.law.specs.Law.{effectiveDepth, lawBy, lawOf, refused, lawAnswer}
 
 answer-refusal : (s : Section) → lawAnswer s .refusal ≡ sectionRefusal s
 unfolding lawAnswer
@@ -34,12 +34,7 @@ module _ (s : Section) {a : LawAnswer} (is : a ≡ lawAnswer s) where
   pub passes : a .refusal ≡ 0 → Accepted s × (a .law ≡ lawOf s)
   passes h = (accepted s (no-refusal h), ap (λ (x : LawAnswer). x .law) is ∙ answer-law s (no-refusal h))
 
--- the depths that a section's law carries
-module _ (s : Section) {l : Law} (is : l ≡ lawOf s) where
-  pub limit-is : l .limit ≡ limitDepth s
-  unfolding lawBy
-  limit-is = ap (λ (l : Law). l .limit) is
-
-  pub depth-is : l .d ≡ effectiveDepth s
-  unfolding lawBy
-  depth-is = ap (λ (l : Law). l .d) is
+-- the effective depth that a section's law carries
+pub depth-is : (s : Section) {l : Law} → l ≡ lawOf s → l .d ≡ effectiveDepth s
+unfolding lawBy
+depth-is s is = ap (λ (l : Law). l .d) is

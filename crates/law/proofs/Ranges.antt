@@ -93,4 +93,8 @@ law-in {s} a =
       s3 = omega (arith, a .fibres .1);
       e3 = refl;
       fyd = (omega arith, omega arith);
+      strain = refl;
+      limit = (limit-in a .0, omega (arith, limit-in a .1, a .sizes .1 .1));
+      ratio = refl;
+      drawn = refl;
     }

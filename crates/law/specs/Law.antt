@@ -51,8 +51,11 @@ lawBy fck d limit fyk feq2 feq3 = record {
   s3 = 37 * feq3 / 100;
   e3 = edition .e3;
   fyd = fyk * 1000 * 100 / 115;
+  strain = edition .limitStrain;
   limit = limit;
+  ratio = edition .limitRatio;
   d = d;
+  drawn = edition .drawnTension;
 }
 
 abbrev pub lawOf : Section → Law
@@ -62,7 +65,7 @@ abbrev pub answered : Law → LawAnswer
 answered law = record { refusal = 0; law = law }
 
 abbrev pub noLaw : Law
-noLaw = record { fcd = 0; s1 = 0; e1 = 0; e2 = 0; s2 = 0; s3 = 0; e3 = 0; fyd = 0; limit = 0; d = 0 }
+noLaw = record { fcd = 0; s1 = 0; e1 = 0; e2 = 0; s2 = 0; s3 = 0; e3 = 0; fyd = 0; strain = 0; limit = 0; ratio = 0; d = 0; drawn = 0 }
 
 abbrev pub refused : ℕ → LawAnswer
 refused number = record { refusal = number; law = noLaw }

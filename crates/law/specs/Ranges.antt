@@ -20,3 +20,7 @@ pub record LawIn (l : Law) : Type 0 where
   pub s3 : l .s3 ≤ 7400
   pub e3 : l .e3 ≡ edition .e3
   pub fyd : (347826 ≤ l .fyd) × (l .fyd ≤ 521739)
+  pub strain : l .strain ≡ edition .limitStrain
+  pub limit : (0 < l .limit) × (l .limit ≤ 1000)
+  pub ratio : l .ratio ≡ edition .limitRatio
+  pub drawn : l .drawn ≡ edition .drawnTension

@@ -13,7 +13,8 @@ const FLEXURAL: [u32; 7] = [3700, 4300, 4800, 5300, 5800, 6300, 6800];
 
 const MODULUS: [u32; 7] = [29000, 30500, 32000, 33500, 35000, 36000, 37000];
 
-// Stresses in kPa, strains in millionths; then, in mm, the depth where the limit strain is reached and the effective depth.
+// Stresses in kPa, strains in millionths. Then what the neutral axis is found by: the limit strain, the depth in mm where it is reached, and the
+// ratio that says where it is; the effective depth d in mm; and the strain in tension where the drawn range begins.
 pub struct Law {
     pub fcd: u32,
     pub s1: u32,
@@ -23,8 +24,11 @@ pub struct Law {
     pub s3: u32,
     pub e3: u32,
     pub fyd: u32,
+    pub strain: u32,
     pub limit: u32,
+    pub ratio: u32,
     pub d: u32,
+    pub drawn: u32,
 }
 
 pub struct LawAnswer {
@@ -72,8 +76,11 @@ fn numbers(section: Section) -> Law
         s3: 37 * (section.feq3 as u32) / 100,
         e3: 10000,
         fyd: section.fyk as u32 * 1000 * 100 / 115,
+        strain: 10000,
         limit: limit_depth(section),
+        ratio: 27,
         d: d,
+        drawn: 10000,
     }
 }
 
@@ -136,8 +143,11 @@ impl Law {
                     s3: 0,
                     e3: 0,
                     fyd: 0,
+                    strain: 0,
                     limit: 0,
+                    ratio: 0,
                     d: 0,
+                    drawn: 0,
                 },
             };
         }

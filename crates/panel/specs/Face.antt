@@ -4,9 +4,11 @@ use mathlib.Core.List.{List}
 use lib.IntN.{ℤ}
 use Rattle.drawn.specs.declared.Drawn.{Drawn}
 use Rattle.drawn.specs.Drawn.{refused, drawnAnswer}
-use Rattle.balance.specs.declared.Amount.{Amount}
-use Rattle.balance.specs.declared.Listing.{Listing}
-use Rattle.balance.specs.Answers.{noAmount, imbalanceAnswer, momentAnswer, unlisted, listAnswer, rowAfter}
+use Rattle.section.specs.declared.Amount.{Amount}
+use Rattle.section.specs.Amount.{noAmount}
+use Rattle.forces.specs.Answers.{imbalanceAnswer, momentAnswer}
+use Rattle.depths.specs.declared.Listing.{Listing}
+use Rattle.depths.specs.Answers.{unlisted, listAnswer, rowAfter}
 use Rattle.shear.specs.Shear.{shearAnswer}
 use Rattle.book.specs.Record.{ofRecord}
 

@@ -4,12 +4,12 @@ ghost use Rattle.class.specs.Class.{classAnswer};
 ghost use lib.ListN.{length};
 ghost use Rattle.book.specs.Book.{bookAnswer, recordAnswer};
 ghost use Rattle.panel.specs.Face.{drawnOf, imbalanceOf, momentOf, listOf, rowOf, shearOf};
-use balance::Amount;
-use balance::Listing;
 use book::BookAnswer;
 use book::RecordAnswer;
 use class::ClassAnswer;
+use depths::Listing;
 use drawn::Drawn;
+use section::Amount;
 
 // The number of records of a book; or 1 to 4, and zero.
 #[no_mangle]
@@ -56,7 +56,7 @@ pub extern "C" fn fw_imbalance(part: &[u8], x: u32) -> Amount
     if answer.refusal != 0 {
         return Amount::refused(answer.refusal);
     }
-    balance::imbalance(answer.section, x)
+    forces::imbalance(answer.section, x)
 }
 
 // Its moment about mid-height, in mN half-mm; refused likewise.
@@ -68,7 +68,7 @@ pub extern "C" fn fw_moment(part: &[u8], x: u32) -> Amount
     if answer.refusal != 0 {
         return Amount::refused(answer.refusal);
     }
-    balance::moment(answer.section, x)
+    forces::moment(answer.section, x)
 }
 
 // Every depth where the forces of a record's section balance, into a lent row; or 6, 7 to 13, 14 or 15, and the row as it was.
@@ -80,7 +80,7 @@ pub extern "C" fn fw_depths(part: &[u8], row: &mut [i64]) -> Listing
     if answer.refusal != 0 {
         return Listing::refused(answer.refusal);
     }
-    balance::depths(answer.section, row)
+    depths::depths(answer.section, row)
 }
 
 // The shear that a record's section resists, in mN; or 6, 7 to 13 or 16, and zero.

@@ -4,3 +4,4 @@ pub mod Lines
 pub mod Rising
 pub mod Accepted
 pub mod Inserted
+pub mod Load

@@ -1,14 +1,16 @@
-// A section of fibre concrete, what is refused of it, and a layer added to it (document 01, 'What a section is').
+// A section of fibre concrete, what is refused of it, what it has, and a layer added to it (document 01, 'What a section is').
 ghost use mathlib.Core.Path.{_≡_};
 ghost use mathlib.Core.Bool.{true, cond, _&&_};
 ghost use mathlib.Core.List.{_++_};
-ghost use Prim.Native.Nat.{_+_, _≤_, _<_};
+ghost use Prim.Native.Nat.{_+_, _*_, _-_, _≤_, _<_};
 ghost use lib.Dec.{leb};
 ghost use lib.IntN.{natAbs};
 ghost use lib.ListN.{drop};
 ghost use Rattle.section.specs.Section.{layersOf, inRange, layersRight};
 ghost use Rattle.section.specs.Refusal.{within, midRight, sectionRefusal};
 ghost use Rattle.section.specs.Added.{taken, layerRefusal, inserted, addedAnswer};
+ghost use Rattle.section.specs.Has.{steelArea, lastDepth};
+ghost use Rattle.section.specs.Amount.{noAmount};
 
 pub struct Layer {
     pub depth: u16,
@@ -33,6 +35,13 @@ pub struct Section {
 pub struct Added {
     pub refusal: u32,
     pub section: Section,
+}
+
+// A force in mN, or a moment in mN half-mm, that is answered of a section.
+#[repr(C)]
+pub struct Amount {
+    pub refusal: u32,
+    pub amount: i64,
 }
 
 // A line of the table of refusals: its number where its test fails, else what the lines below it say.
@@ -138,7 +147,49 @@ fn with_one_more(s: Section, layer: Layer) -> [Layer; 8]
     layers
 }
 
+// The places of the layers there are: a section that is handed over may count more than it has places for.
+fn places(count: u16) -> usize
+    ensures { λ r. ⌜ r ≡ count - (count - 8) ⌝ }
+{
+    if count < 8 { count as usize } else { 8 }
+}
+
+impl Amount {
+    // A refusal's number beside zero.
+    pub fn refused(number: u32) -> Amount
+        ensures { λ r. ⌜ r ≡ noAmount number ⌝ }
+    {
+        Amount {
+            refusal: number,
+            amount: 0,
+        }
+    }
+}
+
 impl Section {
+    // The last depth of the grid: the neutral axis is each whole depth from 1 to it.
+    pub fn last_depth(self) -> u32
+        ensures { λ r. ⌜ r ≡ lastDepth self ⌝ }
+    {
+        self.h as u32
+    }
+
+    // As: the area of layers below mid-height.
+    pub fn steel_area(self) -> u64
+        ensures { λ r. ⌜ (r ≡ steelArea self) × (r ≤ 65535 * 8) ⌝ }
+    {
+        let m = places(self.count);
+        let h = self.h as u32;
+        let mut sum: u64 = 0;
+        for j in 0..m {
+            let layer = self.layers[j];
+            if h < 2 * (layer.depth as u32) {
+                sum = sum + layer.area as u64;
+            }
+        }
+        sum
+    }
+
     // The refusal of a section, 7 to 13, or 0. It is built from the table's last line up, so that the first that holds stays.
     pub fn refusal(self) -> u32
         ensures { λ r. ⌜ r ≡ sectionRefusal self ⌝ }

@@ -8,7 +8,7 @@ use Rattle.section.specs.declared.Section.{Section}
 use Rattle.law.specs.declared.LawAnswer.{LawAnswer}
 use Rattle.law.specs.Law.{lawAnswer}
 use Rattle.law.proofs.Answers.{number, some-refusal, no-refusal}
-use Rattle.balance.specs.Answers.{answered, noAmount}
+use Rattle.section.specs.Amount.{answered, noAmount}
 use Rattle.shear.specs.Shear.{resistance, shearRefusal, shearAnswer}
 
 module _ (s : Section) (a : LawAnswer) (is : a ≡ lawAnswer s) where

@@ -8,7 +8,7 @@ use Rattle.section.specs.declared.Section.{Section}
 use Rattle.section.specs.Accepted.{Accepted}
 use Rattle.law.specs.Law.{effectiveDepth}
 use Rattle.law.proofs.Ranges.{depth-in}
-use Rattle.balance.specs.Forces.{concreteArea}
+use Rattle.section.specs.Has.{concreteArea}
 
 -- a length, and b times it
 pub record AreaIn (b n : ℕ) : Type 0 where

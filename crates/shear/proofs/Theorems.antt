@@ -10,7 +10,7 @@ use Rattle.arith.proofs.Largest.{largest-is}
 use Rattle.arith.proofs.Floor.{floor-is}
 use Rattle.section.specs.declared.Section.{Section}
 use Rattle.section.specs.Accepted.{Accepted}
-use Rattle.balance.specs.Forces.{concreteArea, loadOf}
+use Rattle.section.specs.Has.{concreteArea, loadOf}
 use Rattle.shear.specs.Shear.{squared, cubed, axialShare}
 use Rattle.shear.proofs.Roots.{raised-climbs}
 use Rattle.shear.proofs.Ranges.{concrete-area, area-in}

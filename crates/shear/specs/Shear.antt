@@ -6,23 +6,14 @@ use lib.Dec.{ltb, eqb}
 use lib.IntN.{ℤ, pos, natAbs, _+ℤ_, _*ℤ_}
 use lib.Signed.{ltZ}
 use Rattle.arith.specs.Answers.{unlessRefused}
-use Rattle.arith.specs.Sums.{sumN}
 use Rattle.arith.specs.Floor.{floorDiv}
 use Rattle.arith.specs.Largest.{largest}
 use Rattle.section.specs.declared.Section.{Section}
-use Rattle.section.specs.Section.{belowMid}
+use Rattle.section.specs.declared.Amount.{Amount}
 use Rattle.section.specs.Refusal.{line, firstOf, sectionRefusal}
+use Rattle.section.specs.Has.{concreteArea, steelArea, loadOf}
+use Rattle.section.specs.Amount.{answered, noAmount}
 use Rattle.law.specs.Law.{effectiveDepth, lawOf}
-use Rattle.balance.specs.declared.Amount.{Amount}
-use Rattle.balance.specs.Forces.{concreteArea, depthAt, areaAt, loadOf}
-use Rattle.balance.specs.Answers.{answered, noAmount}
-
--- ---- As, the area of layers below mid-height
-abbrev pub areaBelow : Section → ℕ → ℕ
-areaBelow s j = cond (belowMid s (depthAt s j)) (areaAt s j) 0
-
-unfoldable pub steelArea : Section → ℕ
-steelArea s = sumN (s .count) (areaBelow s)
 
 -- ---- the roots
 abbrev pub squared : ℕ → ℕ → ℕ

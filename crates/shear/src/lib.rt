@@ -6,10 +6,10 @@ ghost use Rattle.arith.specs.Floor.{floorDiv};
 ghost use Rattle.arith.specs.Largest.{Largest};
 ghost use Rattle.section.specs.Accepted.{Accepted};
 ghost use Rattle.law.specs.Law.{effectiveDepth, lawOf};
-ghost use Rattle.shear.specs.Shear.{steelArea, kOf, cOf, atLeastZero, axialShare, concreteShare, fibreShare, stirrups, struts, resistance, shearAnswer};
+ghost use Rattle.shear.specs.Shear.{kOf, cOf, atLeastZero, axialShare, concreteShare, fibreShare, stirrups, struts, resistance, shearAnswer};
 ghost use Rattle.shear.specs.Code.{raised, pastRoots, mostAxial, mostConcrete, mostShear};
-use balance::Amount;
 use law::Law;
+use section::Amount;
 use section::Section;
 
 fn least(a: u64, b: u64) -> u64
@@ -22,23 +22,6 @@ fn most(a: u64, b: u64) -> u64
     ensures { λ r. ⌜ r ≡ max a b ⌝ }
 {
     if a < b { b } else { a }
-}
-
-// As: the area of layers below mid-height.
-fn steel_area(section: Section) -> u64
-    requires { ⌜ Accepted section ⌝ }
-    ensures { λ r. ⌜ (r ≡ steelArea section) × (r ≤ 65535 * 8) ⌝ }
-{
-    let m = section.count as usize;
-    let h = section.h as u32;
-    let mut sum: u64 = 0;
-    for j in 0..m {
-        let layer = section.layers[j];
-        if h < 2 * (layer.depth as u32) {
-            sum = sum + layer.area as u64;
-        }
-    }
-    sum
 }
 
 // n² or n³, times a number.
@@ -116,7 +99,7 @@ fn concrete_share(section: Section, d: u64) -> u64
 {
     let c = c_of(
         section.b as u64 * d,
-        steel_area(section),
+        section.steel_area(),
         section.fck as u64,
     );
     let share = 12 * k_of(d) * c / 100000;

@@ -1,2 +1,3 @@
 pub mod Strips
-pub mod Code
+pub mod Closed
+pub mod Bounds

@@ -4,7 +4,6 @@ use Prim.Native.Nat.{ℕ, _+_, _*_, _-_}
 use mathlib.Core.Bool.{Bool, cond}
 use lib.Dec.{leb}
 use lib.IntN.{ℤ}
-use Rattle.arith.specs.Sums.{sumN, after}
 use Rattle.law.specs.declared.Law.{Law}
 use Rattle.law.specs.Stress.{Stress, signed, concrete}
 use Rattle.law.specs.Sizes.{sizeIn}
@@ -37,6 +36,6 @@ scaleOf a = record { num = 500 * a .unit; den = a .over }
 abbrev pub stripSize : Law → Bool → Axis → ℕ → ℕ
 stripSize l pulls a i = sizeIn l (stripAs l pulls (scaleOf a) (a .x) i)
 
--- the strips of a run, `to` not among them
-abbrev pub runOf : Law → Bool → Axis → ℕ → ℕ → ℤ
-runOf l pulls a from to = signed pulls (sumN (to - from) (after from (stripSize l pulls a)))
+-- with its sign
+abbrev pub stripAt : Law → Axis → ℕ → ℤ
+stripAt l a i = signed (leb (a .x) i) (stripSize l (leb (a .x) i) a i)

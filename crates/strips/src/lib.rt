@@ -1,14 +1,12 @@
-// The strips of a section at a neutral axis: the stress of one, and the signed sum of a run of compressed or of stretched ones (document 01,
-// 'Strains, strips and balance').
+// The strips of a section at a neutral axis (document 01, 'Strains, strips and balance'): the stress of one, and bounds of the sum over a run
+// of them. The bounds are closed sums, one quotient for each piece of the law, and no strip is visited: rounding takes less than 1 kPa off
+// each, so a closed sum is above the sum of the rounded stresses by at most the number of strips that are rounded.
 ghost use mathlib.Core.Path.{_≡_};
-ghost use mathlib.Core.Bool.{true, false};
-ghost use mathlib.Core.Logic.{_↔_};
-ghost use Prim.Native.Nat.{ℕ, _+_, _-_, _*_, _/_, _^_, _≤_, _<_};
+ghost use Prim.Native.Nat.{_+_, _*_, _-_, _^_, _≤_, _<_};
 ghost use lib.Dec.{leb};
-ghost use Rattle.arith.specs.Sums.{sumN, after};
-ghost use Rattle.law.specs.Stress.{signed};
-ghost use Rattle.strips.specs.Strips.{reach, stripSize, runOf};
-ghost use Rattle.strips.specs.Code.{wholeAt, Room, bentAt, Bent, lineAt, Straight, Cut, rampAt, pulledAt, Steady, OnRamp};
+ghost use Rattle.strips.specs.Strips.{reach, stripSize, stripAt};
+ghost use Rattle.strips.specs.Closed.{odds, thrice, squares, bentSum, rampSum, OnParabola, OnRamp};
+ghost use Rattle.strips.specs.Bounds.{cutAt, endOf, fits, Fit, pressedBound, pulledBound, boundsOf};
 use law::Law;
 
 // A neutral axis at depth x. The strain at a position, which is twice a depth, is 500 unit (2 x - position) / over.
@@ -18,16 +16,36 @@ pub struct Axis {
     pub over: u16,
 }
 
-fn least(a: u16, b: u16) -> u16
+// Where a sum of stresses lies, in kPa: from `low` to `high`.
+pub struct Range {
+    pub low: i64,
+    pub high: i64,
+}
+
+// A closed sum of sizes, and how many of its strips are rounded: the sum of the rounded sizes is at most `most`, and at least that less
+// `rounded`.
+struct Bound {
+    most: u64,
+    rounded: u64,
+}
+
+fn least(a: u64, b: u64) -> u64
     ensures { λ r. ⌜ r ≡ a - (a - b) ⌝ }
 {
     if a < b { a } else { b }
 }
 
-fn most(a: u16, b: u16) -> u16
+fn most(a: u64, b: u64) -> u64
     ensures { λ r. ⌜ r ≡ a + (b - a) ⌝ }
 {
     if a < b { b } else { a }
+}
+
+// How far a lies beyond b: 0 where it does not.
+fn beyond(a: u64, b: u64) -> u64
+    ensures { λ r. ⌜ r ≡ a - b ⌝ }
+{
+    if a < b { 0 } else { a - b }
 }
 
 // How far a strip's middle lies from the axis, on the strip's own side.
@@ -47,165 +65,131 @@ fn size(law: Law, pulls: bool, axis: Axis, i: u16) -> u64
     law.concrete_size(pulls, axis.unit as u32 * reach(pulls, axis.x, i), axis.over)
 }
 
-// The sum over a run of strips that lie on one side.
-fn total(law: Law, pulls: bool, axis: Axis, from: u16, to: u16) -> u64
-    requires { ⌜ ((i : ℕ) → from ≤ i → i < to → leb (axis .x) i ≡ pulls) ⌝ }
-    ensures { λ r. ⌜ (r ≡ sumN (to - from) (after from (stripSize law pulls axis))) × (r ≤ 65536 * 65536) ⌝ }
+// Whether law, axis and the end of a run are of a size that 64 bits hold the closed sums of, as every accepted section's are.
+fn fits(law: Law, axis: Axis, to: u16) -> bool
+    ensures { λ r. ⌜ r ≡ fits law axis to ⌝ }
 {
-    let mut sum: u64 = 0;
-    for i in from..to {
-        sum = sum + size(law, pulls, axis, i);
-    }
-    sum
+    (0 < axis.over)
+        & (axis.over <= 22000)
+        & (0 < axis.unit)
+        & (axis.unit <= 50)
+        & (axis.x <= 2000)
+        & (to <= 2000)
+        & (law.fcd <= 28333)
+        & (law.s1 <= 10000)
+        & (law.s2 <= 10000)
+        & (law.s3 <= 10000)
+        & (0 < law.e1)
+        & (law.e1 < law.e2)
+        & (law.e2 < law.e3)
+        & (law.e3 <= 25000)
 }
 
-// Whether law and axis are of the size that every accepted section's are of. Only then is a sum stepped.
-fn steady(law: Law, axis: Axis) -> bool
-    ensures { λ r. ⌜ (r ≡ true) ↔ Steady law axis ⌝ }
+// Strips go by their places from the axis: at place j the reach is 2 j + 1. Of the places from..to the first whose reach times a rate is above
+// a limit; or `to`. The quotient is of 32 bits, which is quicker.
+fn cut(limit: u32, rate: u32, from: u64, to: u64) -> u64
+    requires { ⌜ (0 < rate) × (limit < 2 ^ 31) ⌝ }
+    ensures { λ r. ⌜ r ≡ cutAt limit rate from to ⌝ }
 {
-    let unit = axis.unit as u32;
-    let over = axis.over as u32;
-    let half = over / 2;
+    most(from, least(((limit / rate + 1) / 2) as u64, to))
+}
+
+// The first of them beyond a strain.
+fn end(strain: u32, axis: Axis, from: u64, to: u64) -> u64
+    requires { ⌜ (strain ≤ 25000) × (axis .over ≤ 22000) × (0 < axis .unit) ⌝ }
+    ensures { λ r. ⌜ r ≡ endOf strain axis from to ⌝ }
+{
+    cut(
+        strain * (axis.over as u32),
+        500 * (axis.unit as u32),
+        from,
+        to,
+    )
+}
+
+// The sum of the reaches of the places from..to.
+fn odds(from: u64, to: u64) -> u64
+    requires { ⌜ (from ≤ to) × (to ≤ 2000) ⌝ }
+    ensures { λ r. ⌜ (r ≡ odds from to) × (r ≤ 4000000) ⌝ }
+{
+    to * to - from * from
+}
+
+fn thrice(n: u64) -> u64
+    requires { ⌜ n ≤ 2000 ⌝ }
+    ensures { λ r. ⌜ (r ≡ thrice n) × (r ≤ 32000000000) ⌝ }
+{
+    4 * (n * n * n) - n
+}
+
+// Three times the sum of their squares.
+fn squares(from: u64, to: u64) -> u64
+    requires { ⌜ (from ≤ to) × (to ≤ 2000) ⌝ }
+    ensures { λ r. ⌜ (r ≡ squares from to) × (r ≤ 32000000000) ⌝ }
+{
+    thrice(to) - thrice(from)
+}
+
+// The places from..to on the parabola.
+fn pushed(fcd: u64, over: u64, unit: u64, from: u64, to: u64) -> u64
+    requires { ⌜ OnParabola fcd over unit from to ⌝ }
+    ensures { λ r. ⌜ (r ≡ bentSum fcd over unit from to) × (r < 2 ^ 62) ⌝ }
+{
+    let line = fcd * unit * (24 * over) * odds(from, to);
+    let bend = fcd * unit * unit * squares(from, to);
+    (line - bend) / (48 * over * over)
+}
+
+// The places from..to on the ramp from (ea, sa) to (eb, sb), rising or falling: both ends are weighed.
+fn ramp(ea: u64, sa: u64, eb: u64, sb: u64, over: u64, unit: u64, from: u64, to: u64) -> u64
+    requires { ⌜ OnRamp ea sa eb sb over unit from to ⌝ }
+    ensures { λ r. ⌜ (r ≡ rampSum ea sa eb sb over unit from to) × (r < 2 ^ 60) ⌝ }
+{
+    let strain = 500 * unit * odds(from, to);
+    let length = over * (to - from);
+    (sa * (eb * length) + sb * strain - (sa * strain + sb * (ea * length))) / ((eb - ea) * over)
+}
+
+// Compressed strips: those past the parabola's top bear fcd each, and are not rounded.
+fn pressed_most(law: Law, axis: Axis, from: u64, to: u64) -> Bound
+    requires { ⌜ (Fit law axis to) × (from ≤ to) ⌝ }
+    ensures { λ r. ⌜ r ≡ pressedBound law axis from to ⌝ }
+{
+    let fcd = law.fcd as u64;
+    let top = cut(4 * (axis.over as u32), axis.unit as u32, from, to);
+    let bent = pushed(fcd, axis.over as u64, axis.unit as u64, from, top);
+    Bound {
+        most: fcd * (to - top) + bent,
+        rounded: top - from,
+    }
+}
+
+// Stretched strips: three ramps, each from where the last one ends, and nothing beyond e3.
+fn pulled_most(law: Law, axis: Axis, from: u64, to: u64) -> Bound
+    requires { ⌜ (Fit law axis to) × (from ≤ to) ⌝ }
+    ensures { λ r. ⌜ r ≡ pulledBound law axis from to ⌝ }
+{
+    let over = axis.over as u64;
+    let unit = axis.unit as u64;
     let e1 = law.e1 as u64;
     let e2 = law.e2 as u64;
-    let e3 = law.e3 as u64;
-    (2 * half == over)
-        & (half <= 1000)
-        & (7 <= unit)
-        & (unit <= 3 * half)
-        & (law.fcd < 32768)
-        & (law.s1 < 10000)
-        & (law.s2 < 10000)
-        & (law.s3 < 10000)
-        & (30 <= e1)
-        & (e1 + 30 <= e2)
-        & (e2 + 30 <= e3)
-        & (e3 < 65536)
-        & (e3 * (half as u64) <= 30000000)
-}
-
-// The first of the strips from..to, by their places from the axis, whose reach times unit is above a limit; or `to`.
-fn cut(limit: u32, unit: u32, from: u16, to: u16) -> u16
-    requires { ⌜ (0 < unit) × (limit < 65536 * unit) × (from ≤ to) ⌝ }
-    ensures { λ r. ⌜ Cut limit unit from to r ⌝ }
-{
-    most(from, least(((limit / unit + 1) / 2) as u16, to))
-}
-
-// m n / by, rounded down: in two halves, since m n itself may not fit.
-fn share(m: u64, n: u64, by: u64) -> u64
-    requires { ⌜ (0 < by) × (by * n < 2 ^ 64) × (m * n < 2 ^ 64 * by) ⌝ }
-    ensures { λ r. ⌜ r ≡ m * n / by ⌝ }
-{
-    m / by * n + m % by * n / by
-}
-
-// The sum of the whole parts of a number that climbs, 2⁴⁵ = 35184372088832 parts to the whole: an addition for it, one for its step, and
-// a shift a strip.
-fn climb(first: u64, step: u64, bend: u64, count: u16) -> u64
-    requires { ⌜ Room first step bend count ⌝ }
-    ensures { λ r. ⌜ r ≡ sumN count (wholeAt first step bend) ⌝ }
-{
-    let turns = count as u64;
-    let mut number = first;
-    let mut by = step;
-    let mut sum: u64 = 0;
-    for i in 0..turns {
-        sum = sum + number / 35184372088832;
-        number = number + by;
-        by = by + bend;
+    let s1 = law.s1 as u64;
+    let s2 = law.s2 as u64;
+    let end1 = end(law.e1, axis, from, to);
+    let end2 = end(law.e2, axis, end1, to);
+    let end3 = end(law.e3, axis, end2, to);
+    let one = ramp(0, 0, e1, s1, over, unit, from, end1);
+    let two = ramp(e1, s1, e2, s2, over, unit, end1, end2);
+    let three = ramp(e2, s2, law.e3 as u64, law.s3 as u64, over, unit, end2, end3);
+    Bound {
+        most: one + two + three,
+        rounded: end3 - from,
     }
-    sum
-}
-
-// Strips of the parabola, downwards from its top: what each loses is rounded up, by all parts of a whole but one. Its three numbers are shares
-// of one quotient, 16 times as fine as they are, over 64 squares.
-fn parabola(fcd: u64, half: u64, unit: u64, first: u64, count: u16) -> u64
-    requires { ⌜ Bent fcd half unit first count ⌝ }
-    ensures { λ r. ⌜ (r ≡ sumN count (bentAt fcd half unit first)) × (r ≤ fcd * count) ⌝ }
-{
-    let m = fcd * 562949953421312 / (half * half);
-    let lost = climb(
-        share(m, first * first, 1024) + 35184372088831,
-        share(m, 4 * unit * (first + unit), 1024),
-        share(m, 8 * unit * unit, 1024),
-        count,
-    );
-    fcd * (count as u64) - lost
-}
-
-// Strips of a line, upwards from its lower end. The slope, 32 times as fine as its two shares, and these are raised, so that a stress that is
-// whole is not missed.
-fn line(low: u64, height: u64, den: u64, first: u64, step: u64, count: u16) -> u64
-    requires { ⌜ (low < 10000) × Straight height den first step count ⌝ }
-    ensures { λ r. ⌜ (r ≡ sumN count (lineAt low height den first step)) × (r ≤ 20000 * count) ⌝ }
-{
-    let m = height * 1125899906842624 / den + 1;
-    low * (count as u64) + climb(share(m, first, 32) + 1, share(m, step, 32) + 1, 0, count)
-}
-
-// A run of strips on the ramp from (ea, sa) to (eb, sb), by their places from the axis: their strain is `rate` times the reach over half of
-// `over`. It is walked from its lower end, so that rising and falling are one line.
-fn ramp(axis: Axis, ea: u32, sa: u32, eb: u32, sb: u32, from: u16, to: u16) -> u64
-    requires { ⌜ OnRamp axis ea sa eb sb from to ⌝ }
-    ensures { λ r. ⌜ (r ≡ sumN (to - from) (after from (rampAt axis ea sa eb sb))) × (r ≤ 20000 * 65536) ⌝ }
-{
-    if to <= from {
-        return 0;
-    }
-    let half = axis.over as u64 / 2;
-    let rate = 250 * (axis.unit as u64);
-    let den = (eb - ea) as u64 * half;
-    let count = to - from;
-    if sa <= sb {
-        let first = rate * (2 * (from as u64) + 1) - ea as u64 * half;
-        return line(sa as u64, (sb - sa) as u64, den, first, 2 * rate, count);
-    }
-    let first = eb as u64 * half - rate * (2 * (to as u64) - 1);
-    line(sb as u64, (sa - sb) as u64, den, first, 2 * rate, count)
-}
-
-// Stretched strips, by their places from the axis: three ramps, and nothing beyond e3.
-fn pulled(law: Law, axis: Axis, from: u16, to: u16) -> u64
-    requires { ⌜ (Steady law axis) × (from ≤ to) ⌝ }
-    ensures { λ r. ⌜ (r ≡ sumN (to - from) (after from (pulledAt law axis))) × (r ≤ 60000 * 65536) ⌝ }
-{
-    let half = axis.over as u32 / 2;
-    let rate = 250 * (axis.unit as u32);
-    let end1 = cut(law.e1 * half, rate, from, to);
-    let end2 = cut(law.e2 * half, rate, from, to);
-    let end3 = cut(law.e3 * half, rate, from, to);
-    let one = ramp(axis, 0, 0, law.e1, law.s1, from, end1);
-    let two = ramp(axis, law.e1, law.s1, law.e2, law.s2, end1, end2);
-    one + two + ramp(axis, law.e2, law.s2, law.e3, law.s3, end2, end3)
-}
-
-// Compressed strips, by their places from the axis: those past the parabola's top bear fcd and are counted.
-fn pressed(law: Law, axis: Axis, from: u16, to: u16) -> u64
-    requires { ⌜ (Steady law axis) × (from ≤ to) × (to ≤ axis .x) ⌝ }
-    ensures { λ r. ⌜ (r ≡ sumN (to - from) (after (axis .x - to) (stripSize law false axis))) × (r ≤ 2 * 65536 * 65536) ⌝ }
-{
-    let unit = axis.unit as u32;
-    let limit = 4 * (axis.over as u32);
-    let top = cut(limit, unit, from, to);
-    let level = law.fcd as u64 * ((to - top) as u64);
-    if top == from {
-        return level;
-    }
-    let first = limit - unit * (2 * (top as u32) - 1);
-    level
-        + parabola(
-            law.fcd as u64,
-            axis.over as u64 / 2,
-            unit as u64,
-            first as u64,
-            top - from,
-        )
 }
 
 // The stress of a strip, rounded, with its sign.
 pub fn strip(law: Law, axis: Axis, i: u16) -> i64
-    ensures { λ r. ⌜ r ≡ signed (leb (axis .x) i) (stripSize law (leb (axis .x) i) axis i) ⌝ }
+    ensures { λ r. ⌜ r ≡ stripAt law axis i ⌝ }
 {
     if axis.x <= i {
         -(size(law, true, axis, i) as i64)
@@ -214,27 +198,26 @@ pub fn strip(law: Law, axis: Axis, i: u16) -> i64
     }
 }
 
-// The sum over a run of strips as compressed concrete, `to` not among them.
-pub fn compressed(law: Law, axis: Axis, from: u16, to: u16) -> i64
-    ensures { λ r. ⌜ r ≡ runOf law false axis from to ⌝ }
+// Bounds of the sum of the rounded stresses of the strips from..to, `to` not among them, with their signs: the strips above the axis press,
+// those below it pull. No strip is visited. Where law, axis or run are larger than any section's, nothing is known but what 65,535 strips of
+// less than 65,536 kPa each cannot reach.
+pub fn bounds(law: Law, axis: Axis, from: u16, to: u16) -> Range
+    ensures { λ r. ⌜ r ≡ boundsOf law axis from to ⌝ }
 {
-    let end = least(to, axis.x);
-    if end <= from {
-        return 0;
+    if !fits(law, axis, to) {
+        return Range {
+            low: -4294967296,
+            high: 4294967296,
+        };
     }
-    if steady(law, axis) {
-        return pressed(law, axis, axis.x - end, axis.x - from) as i64;
+    let x = axis.x as u64;
+    let last = to as u64;
+    let first = least(from as u64, last);
+    let push = pressed_most(law, axis, beyond(x, last), beyond(x, first));
+    let pull = pulled_most(law, axis, beyond(first, x), beyond(last, x));
+    let apart = push.most as i64 - pull.most as i64;
+    Range {
+        low: apart - push.rounded as i64,
+        high: apart + pull.rounded as i64,
     }
-    total(law, false, axis, from, end) as i64
-}
-
-// The same as stretched concrete, and so not above zero.
-pub fn stretched(law: Law, axis: Axis, from: u16, to: u16) -> i64
-    ensures { λ r. ⌜ r ≡ runOf law true axis from to ⌝ }
-{
-    let start = most(from, axis.x);
-    if (start < to) & steady(law, axis) {
-        return -(pulled(law, axis, start - axis.x, to - axis.x) as i64);
-    }
-    -(total(law, true, axis, start, to) as i64)
 }

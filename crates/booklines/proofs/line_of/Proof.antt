@@ -1,7 +1,7 @@
 -- `line_of`: the record's refusal as both, or what is answered of its section. Assumes nothing.
 use mathlib.Core.Path.{_∙_}
 use borrow.Author.Needs.{needs}
-use Rattle.balance.specs.Answers.{noAmount}
+use Rattle.section.specs.Amount.{noAmount}
 use Rattle.shear.specs.Shear.{shearAnswer}
 use Rattle.book.proofs.Answers.{refuses-record, answers-record}
 use Rattle.booklines.specs.Line.{noBending, bendingAnswer, lineOf}

@@ -1,9 +1,12 @@
 -- `draw`: the section's refusal, then the strain's, then the piece at the strain. Assumes nothing.
 use mathlib.Core.Path.{_≡_, sym, ap, _∙_}
 use mathlib.Core.Bool.{true}
+use native.Mathlib.Omega.{arith}
 use borrow.Author.Tests.{not-true, not-false}
 use borrow.Author.Needs.{needs}
 use Rattle.arith.proofs.Machine.{read32}
+use Rattle.law.proofs.Ranges.{law-in}
+use Rattle.law.proofs.Answers.{passes}
 use Rattle.drawn.specs.Drawn.{inDrawnRange}
 use Rattle.drawn.proofs.Strains.{drawn-size}
 use Rattle.drawn.proofs.Answers.{refuses-section, refuses-strain, draws}
@@ -26,7 +29,7 @@ returns-2 c =
     ∙ refuses-strain _ _ _ (c .before .before .before .before .before .of .ensures) (c .before .before .before .if1 .left) (sym (range (c .before .before)) ∙ not-true _ (c .before .if2 .taken))
 
 piece-at-requires : tie.Need-piece-at-requires
-piece-at-requires c κs = rw (read32 (c .before .before .before .before .before .before .fits .strain)) (drawn-size _ (in-range (c .before)))
+piece-at-requires c κs = rw (read32 (c .before .before .before .before .before .before .fits .strain)) (omega (arith, drawn-size _ (in-range (c .before))))
 
 returns-3 : tie.Need-returns-3
 returns-3 c =
@@ -40,7 +43,7 @@ draw-spec =
     (λ c κs. search needs)
     (λ c κs. search needs)
     returns
-    (λ c κs. search needs)
+    (λ c κs. let k = passes _ (c .before .before .of .ensures) (c .if1 .left) in rw (k .1) (law-in (k .0) .drawn))
     (λ c κs. search needs)
     returns-2
     (λ c. search needs)

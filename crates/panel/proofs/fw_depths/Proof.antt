@@ -2,7 +2,7 @@
 use mathlib.Core.Path.{_∙_}
 use borrow.Author.Needs.{needs}
 use lib.ListN.{length}
-use Rattle.balance.specs.Answers.{unlisted, listAnswer, rowAfter}
+use Rattle.depths.specs.Answers.{unlisted, listAnswer, rowAfter}
 use Rattle.panel.specs.Face.{listOf, rowOf}
 use Rattle.book.proofs.Answers.{refuses-record, answers-record}
 use Rattle.panel.proofs.fw_depths.Statement.{statement}

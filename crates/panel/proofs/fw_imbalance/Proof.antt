@@ -1,7 +1,8 @@
 -- `fw_imbalance`: the record's refusal, then the section's answer. Assumes nothing.
 use mathlib.Core.Path.{_≡_, _∙_}
 use borrow.Author.Needs.{needs}
-use Rattle.balance.specs.Answers.{noAmount, imbalanceAnswer}
+use Rattle.section.specs.Amount.{noAmount}
+use Rattle.forces.specs.Answers.{imbalanceAnswer}
 use Rattle.panel.specs.Face.{imbalanceOf}
 use Rattle.book.proofs.Answers.{refuses-record, answers-record}
 use Rattle.panel.proofs.fw_imbalance.Statement.{statement}

@@ -1,7 +1,8 @@
 -- `fw_moment`: the record's refusal, then the section's answer. Assumes nothing.
 use mathlib.Core.Path.{_≡_, _∙_}
 use borrow.Author.Needs.{needs}
-use Rattle.balance.specs.Answers.{noAmount, momentAnswer}
+use Rattle.section.specs.Amount.{noAmount}
+use Rattle.forces.specs.Answers.{momentAnswer}
 use Rattle.panel.specs.Face.{momentOf}
 use Rattle.book.proofs.Answers.{refuses-record, answers-record}
 use Rattle.panel.proofs.fw_moment.Statement.{statement}

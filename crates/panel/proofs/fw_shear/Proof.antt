@@ -1,7 +1,7 @@
 -- `fw_shear`: the record's refusal, then the section's answer. Assumes nothing.
 use mathlib.Core.Path.{_≡_, _∙_}
 use borrow.Author.Needs.{needs}
-use Rattle.balance.specs.Answers.{noAmount}
+use Rattle.section.specs.Amount.{noAmount}
 use Rattle.shear.specs.Shear.{shearAnswer}
 use Rattle.panel.specs.Face.{shearOf}
 use Rattle.book.proofs.Answers.{refuses-record, answers-record}

@@ -8,8 +8,8 @@ use Rattle.arith.specs.Floor.{floorDiv}
 use Rattle.arith.proofs.Machine.{back, Stands, stands, stands-mul, stands-fits, stored, stands-for, read}
 use Rattle.section.specs.declared.Section.{Section}
 use Rattle.section.specs.Accepted.{Accepted}
-use Rattle.balance.specs.Forces.{loadOf}
-use Rattle.balance.proofs.Load.{loadHeld, load-held, load-in-mN}
+use Rattle.section.specs.Has.{loadOf}
+use Rattle.section.proofs.Load.{loadHeld, load-held, load-in-mN}
 use Rattle.shear.specs.Shear.{axialShare}
 use Rattle.shear.specs.Code.{mostAxial}
 use Rattle.shear.proofs.Ranges.{concrete-area, area-in}

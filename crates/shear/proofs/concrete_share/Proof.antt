@@ -9,7 +9,8 @@ use mir.Val.{toZ}
 use borrow.Author.Needs.{needs}
 use Rattle.arith.proofs.Machine.{back, Stands, stands-pos, returned, stands-add, stands-fits, stored, stands-for}
 use Rattle.law.specs.Law.{effectiveDepth}
-use Rattle.shear.specs.Shear.{steelArea, kOf, cOf, atLeastZero, axialShare, concreteShare}
+use Rattle.section.specs.Has.{steelArea}
+use Rattle.shear.specs.Shear.{kOf, cOf, atLeastZero, axialShare, concreteShare}
 use Rattle.shear.specs.Code.{pastRoots, mostAxial, mostConcrete}
 use Rattle.shear.proofs.Ranges.{AreaIn, web-in}
 use Rattle.shear.proofs.concrete_share.Statement.{statement}

@@ -4,7 +4,7 @@ use native.Mathlib.Omega.{arith}
 use borrow.Author.Needs.{needs}
 use Rattle.arith.proofs.Machine.{read-pos}
 use Rattle.law.proofs.Answers.{passes}
-use Rattle.balance.specs.Answers.{answered, noAmount}
+use Rattle.section.specs.Amount.{answered, noAmount}
 use Rattle.shear.proofs.Answers.{refuses-section, refuses-without-bars, resists}
 use Rattle.shear.proofs.shear.Statement.{statement}
 use Rattle.shear.proofs.shear.Tie as tie

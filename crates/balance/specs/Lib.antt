@@ -1,5 +1,0 @@
-pub mod Forces
-pub mod Depths
-pub mod Row
-pub mod Answers
-pub mod Code

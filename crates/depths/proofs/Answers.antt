@@ -1,0 +1,91 @@
+-- The answer of `depths`, from that of `Law::of`, and what it tells. Assumes nothing.
+use Prim.Native.Nat.{ℕ, _*_, _≤_, _<_}
+use mathlib.Core.Path.{_≡_, refl, sym, ap, _∙_}
+use mathlib.Core.Bool.{Bool, true, false}
+use mathlib.Core.List.{List}
+use native.Mathlib.Nat.{pos-of-ne-zero}
+use native.Mathlib.Omega.{arith}
+use lib.Dec.{ltb, leb}
+use lib.IntN.{ℤ}
+use lib.ListN.{length}
+use borrow.Author.Tests.{ltb-false, ne-eqb, lt-ltb, lt-leb, le-leb}
+use Rattle.arith.proofs.Answers.{of-answer}
+use Rattle.section.specs.declared.Section.{Section}
+use Rattle.section.specs.Refusal.{line, firstOf, sectionRefusal}
+use Rattle.law.specs.declared.LawAnswer.{LawAnswer}
+use Rattle.law.specs.Law.{lawAnswer}
+use Rattle.law.proofs.Answers.{number, some-refusal, no-refusal}
+use Rattle.depths.specs.declared.Listing.{Listing}
+use Rattle.depths.specs.Depths.{listed, written}
+use Rattle.depths.specs.Answers.{depthsRefusal, listRefusal, unlisted, listAnswer, rowAfter}
+
+module _ (s : Section) (a : LawAnswer) (is : a ≡ lawAnswer s) where
+  module _ (row : List ℤ) where
+    abbrev Answers : Listing → List ℤ → Type 0
+    Answers listing after = (listing ≡ listAnswer s (length row)) × (after ≡ rowAfter s row)
+
+    pub refuses-list : (a .refusal ≡ 0 → ⊥) → Answers (unlisted (a .refusal)) row
+    unfolding listAnswer listRefusal depthsRefusal rowAfter
+    refuses-list h =
+        let t = some-refusal s is h in
+        (rw (t, number s is), rw (t, t, t))
+
+    module _ (n : ℕ) (count : n ≡ length (listed s)) (ok : a .refusal ≡ 0) where
+      pub lists-none : n ≡ 0 → Answers (unlisted 14) row
+      unfolding listAnswer listRefusal depthsRefusal rowAfter
+      lists-none e = let z = no-refusal s is ok in let c = sym count ∙ e in (rw (z, c), rw (z, c))
+
+      module _ (has : n ≡ 0 → ⊥) where
+        there : ltb 0 (length (listed s)) ≡ true
+        there = lt-ltb 0 (length (listed s)) (pos-of-ne-zero (λ z. has (count ∙ z)))
+
+        pub lists-short : length row < 3 * n → Answers (record { refusal = 15; count = n }) row
+        unfolding listAnswer listRefusal depthsRefusal rowAfter
+        lists-short h =
+            let z = no-refusal s is ok in
+            let f = lt-leb (3 * length (listed s)) (length row) (rw count at h) in
+            (rw (z, there, f, count), rw (z, there, f))
+
+        pub lists : 3 * n ≤ length row → Answers (record { refusal = 0; count = n }) (written (listed s) row)
+        unfolding listAnswer listRefusal depthsRefusal rowAfter
+        lists h =
+            let z = no-refusal s is ok in
+            let f = le-leb (3 * length (listed s)) (length row) (rw count at h) in
+            (rw (z, there, f, count), rw (z, there, f))
+
+-- ---- what the list's answer and its row tell
+module _ (s : Section) (room : ℕ) {a : Listing} (is : a ≡ listAnswer s room) where
+  pub list-number : a .refusal ≡ listRefusal s room
+  unfolding listAnswer listRefusal depthsRefusal
+  list-number = rw is (of-answer (λ (x : Listing). x .refusal ≡ listRefusal s room) (sectionRefusal s) _ unlisted (λ e. refl) refused)
+    where
+      refused : (sectionRefusal s ≡ 0 → ⊥) → sectionRefusal s ≡ listRefusal s room
+      refused f = let e = ne-eqb (sectionRefusal s) 0 f in rw (e, e)
+
+  pub list-count : sectionRefusal s ≡ 0 → a .count ≡ length (listed s)
+  unfolding listAnswer
+  list-count ok = rw (is, ok)
+
+  -- beside 15 too; beside any other refusal there is none
+  pub list-needed : (sectionRefusal s ≡ 15 → ⊥) → a .refusal ≡ 15 → a .count ≡ length (listed s)
+  unfolding listAnswer
+  list-needed other =
+      rw is
+      (of-answer (λ (x : Listing). x .refusal ≡ 15 → x .count ≡ length (listed s)) (sectionRefusal s) _ unlisted (λ e h. refl)
+      (λ f h. absurd (other h)))
+
+  pub list-none : (a .refusal ≡ 0 → ⊥) → (a .refusal ≡ 15 → ⊥) → a .count ≡ 0
+  unfolding listAnswer listRefusal depthsRefusal
+  list-none =
+      rw is
+      (of-answer (λ (x : Listing). (x .refusal ≡ 0 → ⊥) → (x .refusal ≡ 15 → ⊥) → x .count ≡ 0) (sectionRefusal s) _ unlisted
+      (λ e. rw e (pick (ltb 0 (length (listed s))) refl (leb (3 * length (listed s)) room))) (λ f h k. refl))
+    where
+      pick : (t : Bool) → ltb 0 (length (listed s)) ≡ t → (u : Bool) → (firstOf (line t 14 0) (line u 15 0) ≡ 0 → ⊥) → (firstOf (line t 14 0) (line u 15 0) ≡ 15 → ⊥) → length (listed s) ≡ 0
+      pick true e true h k = absurd (h refl)
+      pick true e false h k = absurd (k refl)
+      pick false e u h k = omega (arith, ltb-false 0 (length (listed s)) e)
+
+pub row-written : (s : Section) (row : List ℤ) → listRefusal s (length row) ≡ 0 → rowAfter s row ≡ written (listed s) row
+unfolding rowAfter
+row-written s row none = rw none

@@ -1,0 +1,22 @@
+-- What the private functions answer. No public contract cites it.
+use Prim.Native.Nat.{ℕ, _+_, _*_, _<_}
+use mathlib.Core.Path.{_≡_}
+use mathlib.Core.Bool.{cond}
+use mathlib.Core.List.{List}
+use lib.IntN.{ℤ, pos}
+use lib.ListN.{getD}
+use lib.Signed.{ltZ}
+use Rattle.section.specs.declared.Section.{Section}
+use Rattle.forces.specs.Forces.{imbalance}
+
+-- no layer's force is larger than the largest area at the largest fyd, and there are 8
+abbrev pub mostBars : ℕ
+mostBars = 65535 * 521739 * 8
+
+-- the sign of an imbalance: 0 of zero, 1 of what is above it, 2 of what is below
+unfoldable pub signOf : ℤ → ℕ
+signOf z = cond (ltZ z (pos 0)) 2 (cond (ltZ (pos 0) z) 1 0)
+
+-- the signs at depths 1 to n are kept
+abbrev pub Kept : Section → ℕ → List ℕ → Type 0
+Kept s n kept = (i : ℕ) → i < n → getD kept i 0 ≡ signOf (imbalance s (i + 1))

@@ -1,0 +1,4 @@
+pub mod Depths
+pub mod Row
+pub mod Answers
+pub mod Code

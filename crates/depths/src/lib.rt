@@ -1,0 +1,185 @@
+// Where the forces of a section balance: the sign of the imbalance at each depth, and the list of every depth (document 01, 'Strains, strips and
+// balance'). A list needs no imbalance but its sign: bounds of the strips' force give it without a strip visited wherever zero does not lie between
+// them, and the rule itself where it does.
+ghost use mathlib.Core.Path.{_≡_};
+ghost use Prim.Native.Nat.{_+_, _*_, _-_, _≤_, _<_};
+ghost use lib.IntN.{natAbs};
+ghost use lib.ListN.{length, replicate};
+ghost use Rattle.arith.specs.Sums.{sumZ};
+ghost use Rattle.section.specs.Accepted.{Accepted};
+ghost use Rattle.section.specs.Has.{lastDepth};
+ghost use Rattle.law.specs.Law.{lawOf};
+ghost use Rattle.strips.specs.Strips.{scaleOf};
+ghost use Rattle.forces.specs.Forces.{strainScale, barForce, imbalance, moment};
+ghost use Rattle.depths.specs.Depths.{kindAt, listed, written};
+ghost use Rattle.depths.specs.Code.{mostBars, signOf, Kept};
+ghost use Rattle.depths.specs.Answers.{unlisted, listAnswer, rowAfter};
+use law::Law;
+use section::Section;
+use strips::Axis;
+
+#[repr(C)]
+pub struct Listing {
+    pub refusal: u32,
+    pub count: u32,
+}
+
+impl Listing {
+    // A refusal's number beside no depth.
+    pub fn refused(number: u32) -> Listing
+        ensures { λ r. ⌜ r ≡ unlisted number ⌝ }
+    {
+        Listing {
+            refusal: number,
+            count: 0,
+        }
+    }
+}
+
+// The bars' force, in mN.
+fn bars_force(section: Section, law: Law, axis: Axis) -> i64
+    requires { ⌜ (Accepted section) × (law ≡ lawOf section) × (scaleOf axis ≡ strainScale (lawOf section) (axis .x)) ⌝ }
+    ensures { λ r. ⌜ (r ≡ sumZ (section .count) (barForce (lawOf section) section (axis .x))) × (natAbs r ≤ mostBars) ⌝ }
+{
+    let m = section.count as usize;
+    let mut sum: i64 = 0;
+    for j in 0..m {
+        let layer = section.layers[j];
+        sum = sum + layer.area as i64 * forces::bar(law, axis, layer.depth);
+    }
+    sum
+}
+
+// 0 of zero, 1 of what is above it, 2 of what is below.
+fn sign(z: i64) -> u8
+    ensures { λ r. ⌜ r ≡ signOf z ⌝ }
+{
+    if z < 0 {
+        return 2;
+    }
+    if 0 < z { 1 } else { 0 }
+}
+
+// The sign of the imbalance: by its bounds, or by the imbalance itself where zero lies between them.
+fn sign_at(section: Section, law: Law, x: u16) -> u8
+    requires { ⌜ (Accepted section) × (law ≡ lawOf section) × (0 < x) × (x ≤ lastDepth section) ⌝ }
+    ensures { λ r. ⌜ r ≡ signOf (imbalance section x) ⌝ }
+{
+    let axis = forces::axis_at(law, x);
+    let strips = strips::bounds(law, axis, 0, section.h);
+    let rest = bars_force(section, law, axis) - 1000 * (section.load as i64);
+    let b = section.b as i64;
+    if b * strips.high + rest < 0 {
+        return 2;
+    }
+    if 0 < b * strips.low + rest {
+        return 1;
+    }
+    sign(forces::imbalance(section, x as u32).amount)
+}
+
+// In a function of its own, so that no other proof carries a thousand zeros.
+fn no_signs() -> [u8; 1000]
+    ensures { λ r. ⌜ r ≡ replicate 1000 0 ⌝ }
+{
+    let kept: [u8; 1000] = [0; 1000];
+    kept
+}
+
+// The sign at each depth, that of depth 1 first. Each is found once.
+fn signs(section: Section, law: Law) -> [u8; 1000]
+    requires { ⌜ (Accepted section) × (law ≡ lawOf section) ⌝ }
+    ensures { λ r. ⌜ Kept section (lastDepth section) r ⌝ }
+{
+    let last = section.last_depth() as usize;
+    let mut kept = no_signs();
+    for i in 0..last {
+        kept[i] = sign_at(section, law, i as u16 + 1);
+    }
+    kept
+}
+
+// The kind of depth i + 1, or 0. Of two signs 1 and 2 are opposite, and no others make 3.
+fn kind_at(section: Section, kept: &[u8; 1000], i: usize) -> u32
+    requires { ⌜ (Accepted section) × (Kept section (lastDepth section) (now kept)) × (i < lastDepth section) ⌝ }
+    ensures { λ r. ⌜ (r ≡ kindAt section (i + 1)) × (r ≤ 2) ⌝ }
+{
+    let here = kept[i] as u32;
+    if here == 0 {
+        return 1;
+    }
+    let next = i + 1;
+    if next < section.last_depth() as usize {
+        if here + kept[next] as u32 == 3 {
+            return 2;
+        }
+    }
+    0
+}
+
+// How many depths are listed.
+fn listed_count(section: Section, kept: &[u8; 1000]) -> u32
+    requires { ⌜ (Accepted section) × (Kept section (lastDepth section) (now kept)) ⌝ }
+    ensures { λ r. ⌜ (r ≡ length (listed section)) × (r ≤ 1000) ⌝ }
+{
+    let last = section.last_depth() as usize;
+    let mut count: u32 = 0;
+    for i in 0..last {
+        if kind_at(section, kept, i) != 0 {
+            count = count + 1;
+        }
+    }
+    count
+}
+
+fn moment_at(section: Section, x: u32) -> i64
+    requires { ⌜ (Accepted section) × (0 < x) × (x ≤ lastDepth section) ⌝ }
+    ensures { λ r. ⌜ r ≡ moment section x ⌝ }
+{
+    forces::moment(section, x).amount
+}
+
+// Writes the list into a row that holds it.
+fn write_list(section: Section, kept: &[u8; 1000], row: &mut [i64])
+    requires { ⌜ (Accepted section) × (Kept section (lastDepth section) (now kept)) × (3 * length (listed section) ≤ length (now row)) ⌝ }
+    ensures { λ r. ⌜ now (row .exit) ≡ written (listed section) (now (row .entry)) ⌝ }
+{
+    let last = section.last_depth() as usize;
+    let mut at: usize = 0;
+    for i in 0..last {
+        let kind = kind_at(section, kept, i);
+        if kind != 0 {
+            let x = i + 1;
+            row[at] = x as i64;
+            row[at + 1] = kind as i64;
+            row[at + 2] = moment_at(section, x as u32);
+            at = at + 3;
+        }
+    }
+}
+
+// The listed depths of a section, three words each: x, kind, moment; and their number. Or 7 to 13, 14 or 15, and the row as it was.
+pub fn depths(section: Section, row: &mut [i64]) -> Listing
+    ensures { λ r. ⌜ (r ≡ listAnswer section (length (now (row .entry)))) × (now (row .exit) ≡ rowAfter section (now (row .entry))) ⌝ }
+{
+    let answer = Law::of(section);
+    if answer.refusal != 0 {
+        return Listing::refused(answer.refusal);
+    }
+    let kept = signs(section, answer.law);
+    let count = listed_count(section, &kept);
+    if count == 0 {
+        return Listing::refused(14);
+    }
+    if row.len() < 3 * (count as usize) {
+        return Listing {
+            refusal: 15,
+            count: count,
+        };
+    }
+    write_list(section, &kept, row);
+    Listing {
+        refusal: 0,
+        count: count,
+    }
+}

@@ -1,0 +1,6 @@
+pub mod Strains
+pub mod Strips
+pub mod Bars
+pub mod Answers
+pub mod Rounded
+pub mod Common

@@ -1,0 +1,4 @@
+pub mod Forces
+pub mod Axis
+pub mod Answers
+pub mod Code

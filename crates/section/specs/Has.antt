@@ -1,0 +1,36 @@
+-- What a section has, of any section. Lengths in mm, areas in mm², the load in mN.
+use Prim.Native.Nat.{ℕ}
+use mathlib.Core.Bool.{cond}
+use lib.IntN.{ℤ, pos, _*ℤ_}
+use Rattle.arith.specs.Sums.{sumN}
+use Rattle.section.specs.declared.Section.{Section}
+use Rattle.section.specs.Section.{layerAt, belowMid}
+
+-- the width of strip i, of h strips of 1 mm
+abbrev pub widthAt : Section → ℕ → ℕ
+widthAt s i = s .b
+
+abbrev pub depthAt : Section → ℕ → ℕ
+depthAt s j = layerAt (s .layers) j .depth
+
+abbrev pub areaAt : Section → ℕ → ℕ
+areaAt s j = layerAt (s .layers) j .area
+
+-- b h, strip by strip
+abbrev pub concreteArea : Section → ℕ
+concreteArea s = sumN (s .h) (widthAt s)
+
+-- As, the area of layers below mid-height
+abbrev pub areaBelow : Section → ℕ → ℕ
+areaBelow s j = cond (belowMid s (depthAt s j)) (areaAt s j) 0
+
+unfoldable pub steelArea : Section → ℕ
+steelArea s = sumN (s .count) (areaBelow s)
+
+-- the axial load, in mN
+abbrev pub loadOf : Section → ℤ
+loadOf s = pos 1000 *ℤ s .load
+
+-- the neutral axis is each whole depth from 1 to this
+abbrev pub lastDepth : Section → ℕ
+lastDepth s = s .h
