@@ -63,11 +63,12 @@ named() {
 }
 
 # Those that take a section, a record or a book, whatever they answer, and those whose answer bears a number, whatever
-# they take.
+# they take; but for what a section has, which is told of any section.
 refusing() {
     local answers
     answers=$(awk '/^pub struct / { name = $3 } /^    pub refusal: / { print name }' crates/*/src/*.rt | paste -sd '|')
-    signatures | grep -E "	.*(: Section\\b|&\\[u8\\]|-> ($answers)\\b)" | cut -f1 | join -t '	' - <(named) | cut -f2 | sort
+    signatures | grep -E "	.*(: Section\\b|&\\[u8\\]|-> ($answers)\\b)" | cut -f1 |
+        grep -vE '^section\.Section\.(last_depth|steel_area)$' | join -t '	' - <(named) | cut -f2 | sort
 }
 
 # Those that answer anything but a refusal.
@@ -141,7 +142,7 @@ narrowed() {
 
 # The laws are of the rounded stresses in place of the exact ones, and allow twice the area.
 hollow() {
-    local laws=crates/balance/proofs/Rounded.antt near='rw \3 (within-wider (within-exact C _) some (omega arith))'
+    local laws=crates/forces/proofs/Rounded.antt near='rw \3 (within-wider (within-exact C _) some (omega arith))'
     copied && sed -i -E "s/^(area s =) (.*)/\\1 2 * (\\2)/
         s/Over C \\((strip i|bar j)\\) \\((.*)\\)\\)/\\1 ≡ pos C *ℤ rounded (\\2))/
         s/^(  (strip|bar)-near [ij] h =) stress-within .* (\\((strips|bars) [ij] h\\))$/\\1 $near/" "$copy/$laws" &&
@@ -164,7 +165,7 @@ check 'a narrower face can be made' narrowed
 check 'and proved' proved panel
 check 'its widths are refused, and no other statement' refused_at '^  fw-(record|imbalance) = ' Widths.antt
 check 'laws on hollow exact sums can be made' hollow
-check 'and proved' proved balance
+check 'and proved' proved depths
 check 'the statements on exact sums fail, and no other' \
     refused_at '^  (imbalance-is-near|moment-is-near|clearly-above|clearly-below) e = ' Demand3.antt
 rm -rf "$copy"

@@ -33,10 +33,6 @@ back z = toZ w64 (ofZ w64 z)
 pub read-pos : (n : ℕ) → n < 2 ^ 63 → toZ w64 n ≡ pos n
 read-pos n h = F.toZ-pos w64 h
 
--- zero is what has no bits
-pub bits-zero : {z : ℤ} → SFits w64 z → ofZ w64 z ≡ 0 → z ≡ pos 0
-bits-zero h e = sym (read h) ∙ ap (toZ w64) e
-
 -- the code's -n, of an unsigned n
 minus-pos : (n : ℕ) → n < 2 ^ 63 → pos 0 -ℤ toZ w64 n ≡ negℤ (pos n)
 minus-pos n h = rw (read-pos n h) (+ℤ-idl (negℤ (pos n)))

@@ -69,10 +69,6 @@ unfolding sumN
 sum-most zero B f h = omega arith
 sum-most (suc n) B f h = omega (arith, sum-most n B f h, h n, NatL.mul-suc B n)
 
-pub sum-none : (f : ℕ → ℤ) → sumZ 0 f ≡ pos 0
-unfolding sumZ
-sum-none f = refl
-
 -- ---- signed sums: how large they get; a run, cut in two
 pub signed-most : (n B : ℕ) (f : ℕ → ℤ) → ((i : ℕ) → natAbs (f i) ≤ B) → natAbs (sumZ n f) ≤ B * n
 unfolding sumZ

@@ -1,4 +1,5 @@
 pub mod Within
+pub mod Fits
 pub mod Kept
 pub mod Listed
 pub mod Sided

@@ -1,6 +1,6 @@
 -- The imbalance of a section at a depth, by bounds of its strips' force. Assumes nothing.
 use Prim.Native.Nat.{ℕ, zero, suc, _+_, _*_, _-_, _≤_, _<_}
-use mathlib.Core.Path.{_≡_, refl, sym, ap, _∙_}
+use mathlib.Core.Path.{_≡_, refl, sym, ap}
 use mathlib.Core.Bool.{true}
 use native.Mathlib.Nat as NatL
 use native.Mathlib.Omega.{arith}

@@ -6,7 +6,7 @@ use lib.IntN.{ℤ}
 use Rattle.arith.proofs.Answers.{granted}
 use Rattle.section.specs.declared.Section.{Section}
 use Rattle.section.specs.declared.Amount.{Amount}
-use Rattle.section.specs.Refusal.{line, within, sectionRefusal}
+use Rattle.section.specs.Refusal.{within, sectionRefusal}
 use Rattle.section.specs.Accepted.{Between, Accepted}
 use Rattle.section.specs.Has.{lastDepth}
 use Rattle.section.specs.Amount.{answered, noAmount}

@@ -49,10 +49,6 @@ limit-in {s} a =
     limit-by s (λ d. (0 < d) × (d ≤ s .h)) (omega (arith, a .sizes .1 .0), omega arith)
     (λ h. let l = a .bars .0 .each (s .count - 1) (omega arith) in (l .deep, omega (arith, l .inside)))
 
--- below mid-height
-pub limit-deep : {s : Section} → Accepted s → s .h < 2 * limitDepth s
-limit-deep {s} a = limit-by s (λ d. s .h < 2 * d) (omega (arith, a .sizes .1 .0)) (a .bars .1)
-
 pub depth-in : {s : Section} → Accepted s → (0 < effectiveDepth s) × (effectiveDepth s ≤ 1000)
 unfolding effectiveDepth
 depth-in a = (limit-in a .0, omega (arith, limit-in a .1, a .sizes .1 .1))

@@ -1,7 +1,6 @@
 -- `kind_at`: the two tests, on the signs as they were kept. Assumes nothing.
 use Prim.Native.Nat.{ℕ, _+_, _^_, _<_}
-use mathlib.Core.Path.{_≡_, sym, ap, _∙_}
-use mathlib.Core.Bool.{true, false}
+use mathlib.Core.Path.{_≡_, sym, _∙_}
 use native.Mathlib.Nat.{lt-of-lt-of-le}
 use native.Mathlib.Omega.{arith}
 use lib.Dec.{eqb}
@@ -12,7 +11,6 @@ use borrow.Author.Tests.{eq-eqb, ne-eqb}
 use Rattle.section.specs.Has.{lastDepth}
 use Rattle.forces.specs.Forces.{imbalance}
 use Rattle.depths.specs.Depths.{opposite}
-use Rattle.depths.specs.Code.{signOf}
 use Rattle.depths.proofs.Sided.{sign-most, sign-zero, zero-sign, opposite-signs, kind-one, kind-two, kind-none, kind-last}
 use Rattle.depths.proofs.kind_at.Statement.{statement}
 use Rattle.depths.proofs.kind_at.Tie as tie

@@ -1,5 +1,4 @@
 -- `drawable`: the edition's drawn range, as the law carries it. Assumes nothing.
-use mathlib.Core.Path.{_≡_}
 use native.Mathlib.Omega.{arith}
 use mir.Syntax.{w32, w64}
 use mir.Val.{SFits, toZ, ofZ}
