@@ -9,7 +9,7 @@ mod section;
 mod shear;
 
 pub use balance::{
-    amounts, area, exact, list_of, rounded, write, Amount, Axis, List, Listed, Sums,
+    amounts, area, exact, list_of, listed, rounded, write, Amount, Axis, List, Listed, Sums,
 };
 pub use book::{book, lines, record, Book, BookAnswer, Bound, Lines, RecordAnswer, LINES};
 pub use class::{class, Class, LETTERS, STEPS};

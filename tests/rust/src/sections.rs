@@ -1,6 +1,6 @@
 //! Document 01's sections, and random sections and records, for the tests of what is asked of a record.
 use crate::random::Random;
-use crate::rules::{self, Layer, Section, TABLE};
+use crate::rules::{self, Law, Layer, Section, TABLE};
 use std::collections::BTreeSet;
 
 /// The plate and the beam of document 01's book.
@@ -81,10 +81,8 @@ const BALANCES: [fn(&mut Section, &mut Random); 5] = [
     |_, _| {},
     |section, _| section.load = 0,
     |section, random| balance(section, number(random, 1, section.h)),
-    // Every force is then a whole number of N, so that an imbalance is zero.
     |section, random| {
-        section.b = random.pick(&[1000, 2000]);
-        set_areas(section, |area| 1000 * (area % 5 + 1));
+        bear_whole_newtons(section, random);
         balance(section, number(random, 1, section.h));
     },
     // The concrete below light bars is torn at first; it comes back into tension where the neutral axis passes a quarter of their depth.
@@ -100,6 +98,33 @@ const BALANCES: [fn(&mut Section, &mut Random); 5] = [
         balance(section, number(random, middle / 4, middle / 2));
     },
 ];
+
+/// Makes every force a whole number of N, so that a load can leave an imbalance of exactly zero at any depth.
+pub fn bear_whole_newtons(section: &mut Section, random: &mut Random) {
+    section.b = random.pick(&[1000, 2000]);
+    set_areas(section, |area| 1000 * (area % 5 + 1));
+}
+
+/// Makes the tension beyond e2 the same up to e3 and a whole number, 45 x 37 k / 100 of either strength: rounding takes
+/// nothing off a strip there.
+pub fn flatten(section: &mut Section, random: &mut Random) {
+    let k = number(random, 0, 444);
+    (section.feq2, section.feq3) = (37 * k, 45 * k);
+}
+
+/// Makes the law bear as much in tension as in compression up to 3500. With bars just below mid-height, which yield,
+/// the imbalance hardly moves while the axis is at 7/27 of a depth between theirs and h.
+pub fn level(section: &mut Section, random: &mut Random) {
+    let depth = section.h / 2 + 1;
+    section.layers = vec![Layer { depth, area: 1 }];
+    section.fck = random.pick(&[20, 25]);
+    let Law { fcd, corners, .. } = Law::of(section);
+    let [e1, s1] = [-corners[2].0, -corners[2].1];
+    // Twice the areas under the law's pieces are equal; without feq3 the stress has no jump at e3.
+    let s2 = (fcd * 17_000 / 3 - s1 * e1 - 100 * s1) / (10_000 - e1);
+    section.feq2 = (100 * s2 as u32).div_ceil(45) as u16;
+    section.feq3 = 0;
+}
 
 fn set_areas(section: &mut Section, area: fn(u16) -> u16) {
     for layer in &mut section.layers {

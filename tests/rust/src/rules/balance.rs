@@ -132,20 +132,23 @@ pub type List = Vec<[i64; 3]>;
 /// Those of an accepted section.
 fn list(section: &Section) -> List {
     let sums: Vec<Sums<i64>> = (1..=section.h).map(|x| rounded(section, x)).collect();
+    let imbalances: Vec<i64> = sums.iter().map(|sums| sums.imbalance).collect();
+    listed(&imbalances, |x| sums[usize::from(x) - 1].moment)
+}
+
+/// Those where the imbalances at the depths from 1 on are these.
+pub fn listed(imbalances: &[i64], moment: impl Fn(u16) -> i64) -> List {
+    let signs = imbalances.iter().map(|imbalance| imbalance.signum());
     // What stands after the last depth is opposite to nothing.
-    let signs: Vec<i64> = sums
-        .iter()
-        .map(|sums| sums.imbalance.signum())
-        .chain([0])
-        .collect();
+    let signs: Vec<i64> = signs.chain([0]).collect();
     let kind = |pair: &[i64]| match (pair[0], pair[0] * pair[1]) {
         (0, _) => Some(1),
         (_, -1) => Some(2),
         _ => None,
     };
-    let depths = (1..).zip(signs.windows(2)).zip(sums);
-    depths
-        .filter_map(|((x, pair), sums)| kind(pair).map(|kind| [x, kind, sums.moment]))
+    (1..)
+        .zip(signs.windows(2).map(kind))
+        .filter_map(|(x, kind)| Some([x.into(), kind?, moment(x)]))
         .collect()
 }
 
