@@ -1,23 +1,12 @@
 /* Document 01's formulas in C as they stand there: 64-bit integers, the law's numbers once for a section, a division for each strip. */
 #include "plain.h"
 
-enum { E3 = 10000, HIGHEST = 1000 };
-
-typedef struct {
-    int64_t fcd, fyd, s1, s2, s3, e1, e2;
-} law;
-
-/* The strain at depth y is num (2x - 2y) / den. */
-typedef struct {
-    int64_t x, num, den;
-} axis;
-
 static int64_t effective_depth(const section *s)
 {
     return s->m > 0 ? s->layers[s->m - 1].depth : s->h;
 }
 
-static law law_of(const section *s)
+law law_of(const section *s)
 {
     static const int64_t flexural[] = {3700, 4300, 4800, 5300, 5800, 6300, 6800};
     static const int64_t modulus[] = {29000, 30500, 32000, 33500, 35000, 36000, 37000};
@@ -33,7 +22,7 @@ static law law_of(const section *s)
     return l;
 }
 
-static axis axis_at(const section *s, int64_t x)
+axis axis_at(const section *s, int64_t x)
 {
     int64_t d = effective_depth(s);
     if (7 * d > 27 * x)
@@ -78,12 +67,12 @@ static int64_t strip_force(const section *s, const law *l, axis a, int i)
     return s->b * concrete_stress(l, a.num * (2 * a.x - (2 * i + 1)), a.den);
 }
 
-static int64_t bar_force(const section *s, const law *l, axis a, int j)
+int64_t bar_force(const section *s, const law *l, axis a, int j)
 {
     return s->layers[j].area * bar_stress(l, a.num * (2 * a.x - 2 * s->layers[j].depth), a.den);
 }
 
-static int64_t imbalance(const section *s, const law *l, int64_t x)
+int64_t imbalance(const section *s, const law *l, int64_t x)
 {
     axis a = axis_at(s, x);
     int64_t sum = -1000 * (int64_t)s->load;
