@@ -1,9 +1,9 @@
 -- `sign_at`: by a bound on one side of zero, else by the imbalance itself (Within, Sided). Assumes nothing.
 use Prim.Native.Nat.{ℕ, _≤_}
-use mathlib.Core.Path.{_≡_, ap, _∙_}
+use mathlib.Core.Path.{_≡_, sym, ap, _∙_}
 use native.Mathlib.Omega.{arith}
 use lib.IntN.{pos, natAbs, _*ℤ_}
-use lib.Signed.{_≤ℤ_}
+use lib.Signed.{ltZ, _≤ℤ_}
 use borrow.Author.Needs.{needs}
 use Rattle.arith.specs.Sums.{sumZ}
 use Rattle.arith.proofs.Machine.{read, stands-fits, stored}
@@ -56,7 +56,7 @@ returns c =
     let s = start b .args .section in
     let r = b .before .bounds .result in
     let k = bounded (start b .pre .0) (b .bars-force .result) (b .bars-force .ensures .1) (r .high) (sizes (b .before) .1) in
-    asked b (sign-below _ (is-below s _ (b .bars-force .ensures .0) (lies b .1) (rw (stored k (omega arith) .is) at (c .if1 .taken))))
+    asked b (sign-below _ (is-below s _ (b .bars-force .ensures .0) (lies b .1) (ap (λ z. ltZ z (pos 0)) (sym (stored k (omega arith) .is)) ∙ c .if1 .taken)))
 
 returns-2 : tie.Need-returns-2
 returns-2 c =
@@ -64,7 +64,7 @@ returns-2 c =
     let s = start b .args .section in
     let r = b .before .bounds .result in
     let k = bounded (start b .pre .0) (b .bars-force .result) (b .bars-force .ensures .1) (r .low) (sizes (b .before) .0) in
-    asked b (sign-above _ (is-above s _ (b .bars-force .ensures .0) (lies b .0) (rw (stored k (omega arith) .is) at (c .if2 .taken))))
+    asked b (sign-above _ (is-above s _ (b .bars-force .ensures .0) (lies b .0) (ap (λ z. ltZ (pos 0) z) (sym (stored k (omega arith) .is)) ∙ c .if2 .taken)))
 
 returns-3 : tie.Need-returns-3
 returns-3 c =

@@ -1,5 +1,9 @@
 -- `drawable`: the edition's drawn range, as the law carries it. Assumes nothing.
+use mathlib.Core.Path.{_∙_}
+use mathlib.Core.Bool.{_&&_}
 use native.Mathlib.Omega.{arith}
+use lib.IntN.{pos}
+use lib.Signed.{leZ}
 use mir.Syntax.{w32, w64}
 use mir.Val.{SFits, toZ, ofZ}
 use Rattle.arith.proofs.Machine.{read, read32, read-minus, minus-fits}
@@ -12,7 +16,10 @@ wide c = rw (read32 (c .before .fits .strain)) (record { sfits = omega (arith, c
 
 returns : tie.Need-returns
 unfolding edition
-returns c = rw (read-minus (c .before .args .l .drawn) (omega arith), read (wide c), read32 (c .before .fits .strain), c .before .pre)
+returns c =
+    let e = read32 (c .before .fits .strain) in
+    (λ i. leZ (read-minus (c .before .args .l .drawn) (omega arith) i) ((read (wide c) ∙ e) i) && leZ (e i) (pos 3500))
+    ∙ rw (c .before .pre)
 
 pub drawable-spec : {M : Type 1} → statement M
 drawable-spec =
