@@ -14,7 +14,8 @@ use Rattle.law.specs.Law.{lawOf}
 use Rattle.law.proofs.Ranges.{law-in}
 use Rattle.strips.specs.declared.Axis.{Axis}
 use Rattle.strips.specs.Strips.{Scale, scaleOf}
-use Rattle.strips.specs.Bounds.{AxisFit, fits}
+use Rattle.strips.specs.Bounds.{fits}
+use Rattle.strips.specs.Code.{AxisFit}
 use Rattle.strips.proofs.Within.{fits-is}
 use Rattle.forces.specs.Forces.{strainScale}
 use Rattle.forces.specs.Axis.{axisAt}

@@ -20,7 +20,8 @@ use Rattle.law.specs.Law.{lawOf}
 use Rattle.strips.specs.declared.Axis.{Axis}
 use Rattle.strips.specs.declared.Range.{Range}
 use Rattle.strips.specs.Strips.{scaleOf, stripAt}
-use Rattle.strips.specs.Bounds.{boundsOf, Holds}
+use Rattle.strips.specs.Bounds.{boundsOf}
+use Rattle.strips.specs.Code.{Holds}
 use Rattle.strips.proofs.Within.{bounds-hold}
 use Rattle.forces.specs.Forces.{strainScale, stripForce, barForce, forces, imbalance}
 use Rattle.forces.proofs.Strips.{strip-is}

@@ -5,7 +5,8 @@ use native.Mathlib.Nat as NatL
 use native.Mathlib.Omega.{arith}
 use Rattle.arith.specs.Sums.{sumN, after}
 use Rattle.strips.specs.Strips.{middle}
-use Rattle.strips.specs.Closed.{Near, odds, thrice, squares, bentAt, bentSum, OnParabola, rampAt, rampSum, OnRamp}
+use Rattle.strips.specs.Closed.{odds, thrice, squares, bentSum, rampSum}
+use Rattle.strips.specs.Code.{Near, bentAt, OnParabola, rampAt, OnRamp}
 use Rattle.strips.proofs.Quotients.{quotients, weighed}
 
 -- ---- odd numbers and their squares

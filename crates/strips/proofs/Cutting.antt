@@ -11,8 +11,8 @@ use Rattle.law.specs.Stress.{size, concrete}
 use Rattle.law.proofs.Sizes.{small-is, sized}
 use Rattle.strips.specs.declared.Axis.{Axis}
 use Rattle.strips.specs.Strips.{middle, reach, stripSize}
-use Rattle.strips.specs.Closed.{Near}
-use Rattle.strips.specs.Bounds.{least, most, cutAt, Fit}
+use Rattle.strips.specs.Bounds.{least, most, cutAt}
+use Rattle.strips.specs.Code.{Near, Fit}
 
 -- ---- the j-th place is within the limit where its 2 j + 1 is at most the quotient
 pub record Cut (limit rate from to at : ℕ) : Type 0 where

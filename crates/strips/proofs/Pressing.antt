@@ -11,8 +11,8 @@ use Rattle.law.specs.Stress.{size, compressed}
 use Rattle.law.proofs.Sizes.{compressed-level, compressed-rises}
 use Rattle.strips.specs.declared.Axis.{Axis}
 use Rattle.strips.specs.Strips.{middle}
-use Rattle.strips.specs.Closed.{Near, OnParabola}
-use Rattle.strips.specs.Bounds.{Fit, level, topOf, pressedBound}
+use Rattle.strips.specs.Bounds.{level, topOf, pressedBound}
+use Rattle.strips.specs.Code.{Near, OnParabola, Fit}
 use Rattle.strips.proofs.Closed.{bent-near}
 use Rattle.strips.proofs.Cutting.{Cut, cuts, near-same, placeAt}
 

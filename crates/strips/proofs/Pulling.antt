@@ -11,8 +11,8 @@ use Rattle.law.specs.Stress.{size}
 use Rattle.law.proofs.Sizes.{stretched-first, stretched-second, stretched-third, stretched-beyond}
 use Rattle.strips.specs.declared.Axis.{Axis}
 use Rattle.strips.specs.Strips.{middle}
-use Rattle.strips.specs.Closed.{Near, OnRamp}
-use Rattle.strips.specs.Bounds.{endOf, Fit, three, pulledBound}
+use Rattle.strips.specs.Bounds.{endOf, three, pulledBound}
+use Rattle.strips.specs.Code.{Near, OnRamp, Fit}
 use Rattle.strips.proofs.Closed.{ramp-near}
 use Rattle.strips.proofs.Cutting.{Cut, cuts, near-same, placeAt}
 

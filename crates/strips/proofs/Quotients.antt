@@ -4,7 +4,7 @@ use mathlib.Core.Path.{_≡_}
 use native.Mathlib.Nat as NatL
 use native.Mathlib.Omega.{arith}
 use Rattle.arith.specs.Sums.{sumN}
-use Rattle.strips.specs.Closed.{Near}
+use Rattle.strips.specs.Code.{Near}
 
 -- ---- a quotient takes less than one off each term
 module _ {D : ℕ} (some : 0 < D) where

@@ -23,8 +23,8 @@ use Rattle.strips.specs.declared.Axis.{Axis}
 use Rattle.strips.specs.declared.Bound.{Bound}
 use Rattle.strips.specs.declared.Range.{Range}
 use Rattle.strips.specs.Strips.{stripSize, stripAt}
-use Rattle.strips.specs.Closed.{Near}
-use Rattle.strips.specs.Bounds.{least, most, Fit, fits, pressedBound, pulledBound, apart, sides, closedBounds, unknown, boundsOf, Holds}
+use Rattle.strips.specs.Bounds.{least, most, fits, pressedBound, pulledBound, apart, sides, closedBounds, unknown, boundsOf}
+use Rattle.strips.specs.Code.{Near, Fit, Holds}
 use Rattle.strips.proofs.Runs.{size-most, strip-most}
 use Rattle.strips.proofs.Cutting.{above, below}
 use Rattle.strips.proofs.Pressing.{pressed-near, pressed-few}

@@ -1,11 +1,9 @@
 -- Bounds of the sum over a run of strips: the closed sum of those on each side of the axis, cut where one piece of the law ends and the next starts.
-use Prim.Native.Nat.{ℕ, _+_, _*_, _-_, _/_, _≤_, _<_}
+use Prim.Native.Nat.{ℕ, _+_, _*_, _-_, _/_}
 use mathlib.Core.Bool.{Bool, cond, _&&_}
 use lib.Dec.{ltb, leb}
-use lib.IntN.{ℤ, pos, negℤ, natAbs, _+ℤ_, _-ℤ_}
-use lib.Signed.{_≤ℤ_}
+use lib.IntN.{ℤ, pos, negℤ, _+ℤ_, _-ℤ_}
 use Rattle.law.specs.declared.Law.{Law}
-use Rattle.law.specs.Ranges.{Lawful}
 use Rattle.strips.specs.declared.Axis.{Axis}
 use Rattle.strips.specs.declared.Bound.{Bound}
 use Rattle.strips.specs.declared.Range.{Range}
@@ -22,22 +20,6 @@ abbrev pub cutAt : (limit rate from to : ℕ) → ℕ
 cutAt limit rate from to = most from (least ((limit / rate + 1) / 2) to)
 
 -- ---- the sizes of law, axis and run, with room for what is to come: 64 bits hold every closed sum of up to 2000 strips
-pub record AxisFit (a : Axis) : Type 0 where
-  pub over : (0 < a .over) × (a .over ≤ 22000)
-  pub unit : (0 < a .unit) × (a .unit ≤ 50)
-  pub x : a .x ≤ 2000
-
-pub record Fit (l : Law) (a : Axis) (to : ℕ) : Type 0 where
-  pub axis : AxisFit a
-  pub few : to ≤ 2000
-  pub lines : Lawful l
-  pub fcd : l .fcd ≤ 28333
-  pub s1 : l .s1 ≤ 10000
-  pub s2 : l .s2 ≤ 10000
-  pub s3 : l .s3 ≤ 10000
-  pub e3 : l .e3 ≤ 25000
-
--- and as a test
 abbrev pub fits : Law → Axis → ℕ → Bool
 fits l a to =
     ltb 0 (a .over)
@@ -83,13 +65,6 @@ pulledBound l a from to =
     three l a from end1 end2 (endOf (l .e3) a end2 to)
 
 -- ---- both sides
--- a sum lies within bounds, of a size that callers have room for
-pub record Holds (sum : ℤ) (b : Range) : Type 0 where
-  pub above : (b .low) ≤ℤ sum
-  pub below : sum ≤ℤ (b .high)
-  pub low-most : natAbs (b .low) ≤ 4294967296
-  pub high-most : natAbs (b .high) ≤ 4294967296
-
 abbrev pub apart : Bound → Bound → ℤ
 apart push pull = pos (push .most) -ℤ pos (pull .most)
 

@@ -1,3 +1,4 @@
 pub mod Strips
 pub mod Closed
 pub mod Bounds
+pub mod Code

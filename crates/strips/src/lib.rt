@@ -5,8 +5,9 @@ ghost use mathlib.Core.Path.{_≡_};
 ghost use Prim.Native.Nat.{_+_, _*_, _-_, _^_, _≤_, _<_};
 ghost use lib.Dec.{leb};
 ghost use Rattle.strips.specs.Strips.{reach, stripSize, stripAt};
-ghost use Rattle.strips.specs.Closed.{odds, thrice, squares, bentSum, rampSum, OnParabola, OnRamp};
-ghost use Rattle.strips.specs.Bounds.{cutAt, endOf, fits, Fit, pressedBound, pulledBound, boundsOf};
+ghost use Rattle.strips.specs.Closed.{odds, thrice, squares, bentSum, rampSum};
+ghost use Rattle.strips.specs.Bounds.{cutAt, endOf, fits, pressedBound, pulledBound, boundsOf};
+ghost use Rattle.strips.specs.Code.{OnParabola, OnRamp, Fit};
 use law::Law;
 
 // A neutral axis at depth x. The strain at a position, which is twice a depth, is 500 unit (2 x - position) / over.

@@ -4,7 +4,8 @@ use mathlib.Core.Path.{_≡_}
 use native.Mathlib.Nat.{mul-pos, div-le-self}
 use native.Mathlib.Omega.{arith}
 use borrow.Author.Needs.{needs}
-use Rattle.strips.specs.Closed.{odds, squares, OnParabola}
+use Rattle.strips.specs.Closed.{odds, squares}
+use Rattle.strips.specs.Code.{OnParabola}
 use Rattle.strips.proofs.Quotients.{within}
 use Rattle.strips.proofs.Closed.{bends}
 use Rattle.strips.proofs.pushed.Statement.{statement}

@@ -4,7 +4,8 @@ use mathlib.Core.Path.{_≡_}
 use native.Mathlib.Nat.{mul-pos, div-le-self}
 use native.Mathlib.Omega.{arith}
 use borrow.Author.Needs.{needs}
-use Rattle.strips.specs.Closed.{odds, OnRamp}
+use Rattle.strips.specs.Closed.{odds}
+use Rattle.strips.specs.Code.{OnRamp}
 use Rattle.strips.proofs.Quotients.{within}
 use Rattle.strips.proofs.Closed.{slopes}
 use Rattle.strips.proofs.ramp.Statement.{statement}
