@@ -7,25 +7,18 @@ use mir.Syntax.{w64}
 use mir.Val.{toZ}
 use borrow.Author.Needs.{needs}
 use Rattle.arith.proofs.Machine.{read, back}
-use Rattle.arith.proofs.Sums.{Running, running-none, running-fits, running-next, running-all}
-use Rattle.section.specs.declared.Section.{Section}
 use Rattle.section.specs.Has.{areaAt, depthAt}
 use Rattle.law.specs.Law.{lawOf}
 use Rattle.strips.specs.Strips.{scaleOf}
 use Rattle.forces.specs.Forces.{lever, barCounts, barForce, barMoment}
-use Rattle.forces.specs.Code.{mostForce, mostMoment}
 use Rattle.forces.proofs.Bars.{bar-weak}
+use Rattle.forces.proofs.Both.{Both, none, force-fits, moment-fits, next, all}
 use Rattle.forces.proofs.bar_sums.Statement.{statement}
 use Rattle.forces.proofs.bar_sums.Tie as tie
 
-abbrev Forces : Section → ℕ → ℕ → ℤ → Type 0
-Forces s x n z = Running (barForce (lawOf s) s x) mostForce n z
-
-abbrev Moments : Section → ℕ → ℕ → ℤ → Type 0
-Moments s x n z = Running (barMoment (lawOf s) s x) mostMoment n z
-
 abbrev Inv-loop : tie.InvT-loop
-Inv-loop law axis section m h sum₀ moment₀ j₀ sum moment j = (j ≤ m) × Forces section (axis .x) j (toZ w64 sum) × Moments section (axis .x) j (toZ w64 moment)
+Inv-loop law axis section m h sum₀ moment₀ j₀ sum moment j =
+    (j ≤ m) × Both (barForce (lawOf section) section (axis .x)) (barMoment (lawOf section) section (axis .x)) j (toZ w64 sum) (toZ w64 moment)
 
 abbrev μ-loop : tie.MeasureT-loop
 μ-loop law axis section m h sum₀ moment₀ j₀ sum moment j = m - j
@@ -65,25 +58,16 @@ turned-is c =
     let is : c .turned .result ≡ lever s (2 * depthAt s (at f)) *ℤ back (f .force .result) = c .turned .ensures .0 in
     is ∙ ap (λ z. lever s (2 * depthAt s (at f)) *ℤ z) (read (record { sfits = f .force .ok }) ∙ force-is f)
 
-few : (c : tie.After-force Inv-loop μ-loop) → at c < 8
+few : (c : tie.After-force Inv-loop μ-loop) → at c < 1000
 few c = omega (arith, start c .pre .0 .bars .0 .few)
 
 loop-again : tie.Need-loop-again Inv-loop μ-loop
 loop-again c =
     let f = c .before .before in
-    let i = f .before .before .before .before .loop .inv in (
-      omega arith,
-      running-next (i .1) (f .force .result) (force-is f) (f .force .ensures .1) (omega (arith, few f)),
-      running-next (i .2) (c .turned .result) (turned-is c) (c .turned .ensures .1) (omega (arith, few f)),
-    )
+    (omega arith, next (f .before .before .before .before .loop .inv .1) (few f) _ (force-is f) (f .force .ensures .1) _ (turned-is c) (c .turned .ensures .1))
 
 returns : tie.Need-returns Inv-loop μ-loop
-returns c =
-    let s = c .before .before .args .t1 in
-    let i = c .before .loop .inv in
-    let f = running-all (s .count) 8 (i .1) (omega arith) (c .before .before .pre .0 .bars .0 .few) in
-    let m = running-all (s .count) 8 (i .2) (omega arith) (c .before .before .pre .0 .bars .0 .few) in
-    record { forces = f .0; force-most = f .1; moments = m .0; moment-most = m .1 }
+returns c = let s = c .before .before in all (s .args .t1 .count) 8 (c .before .loop .inv .1) (omega arith) (s .pre .0 .bars .0 .few)
 
 pub bar-sums-spec : {M : Type 1} → statement M
 bar-sums-spec =
@@ -92,16 +76,16 @@ bar-sums-spec =
     Inv-loop
     μ-loop
     (λ c. search needs)
-    (λ c. (omega arith, running-none _ _, running-none _ _))
+    (λ c. (omega arith, none _ _))
     (λ c. search needs)
     (λ c. search needs)
     (λ c κs. search needs)
     force-requires
-    (λ c. running-fits (c .before .before .before .before .loop .inv .1) (c .force .result) (force-is c) (c .force .ensures .1) (omega (arith, few c)))
+    (λ c. force-fits (c .before .before .before .before .loop .inv .1) (few c) _ (force-is c) (c .force .ensures .1))
     (λ c. search needs)
     (λ c. search needs)
     turned-requires
-    (λ c. running-fits (c .before .before .before .before .before .before .loop .inv .2) (c .turned .result) (turned-is c) (c .turned .ensures .1) (omega (arith, few (c .before .before))))
+    (λ c. moment-fits (c .before .before .before .before .before .before .loop .inv .1) (few (c .before .before)) _ (turned-is c) (c .turned .ensures .1))
     (λ c. search needs)
     (λ c. search needs)
     loop-again

@@ -8,24 +8,17 @@ use mir.Syntax.{w64}
 use mir.Val.{toZ}
 use borrow.Author.Needs.{needs}
 use Rattle.arith.proofs.Machine.{read, back}
-use Rattle.arith.proofs.Sums.{Running, running-none, running-fits, running-next, running-all}
-use Rattle.section.specs.declared.Section.{Section}
 use Rattle.law.specs.Law.{lawOf}
 use Rattle.strips.proofs.Runs.{strip-most}
 use Rattle.forces.specs.Forces.{lever, stripForce, stripMoment}
-use Rattle.forces.specs.Code.{mostForce, mostMoment}
 use Rattle.forces.proofs.Strips.{strip-is}
+use Rattle.forces.proofs.Both.{Both, none, force-fits, moment-fits, next, all}
 use Rattle.forces.proofs.strip_sums.Statement.{statement}
 use Rattle.forces.proofs.strip_sums.Tie as tie
 
-abbrev Forces : Section → ℕ → ℕ → ℤ → Type 0
-Forces s x n z = Running (stripForce (lawOf s) s x) mostForce n z
-
-abbrev Moments : Section → ℕ → ℕ → ℤ → Type 0
-Moments s x n z = Running (stripMoment (lawOf s) s x) mostMoment n z
-
 abbrev Inv-loop : tie.InvT-loop
-Inv-loop section law axis h sum₀ moment₀ i₀ sum moment i = (i ≤ h) × Forces section (axis .x) i (toZ w64 sum) × Moments section (axis .x) i (toZ w64 moment)
+Inv-loop section law axis h sum₀ moment₀ i₀ sum moment i =
+    (i ≤ h) × Both (stripForce (lawOf section) section (axis .x)) (stripMoment (lawOf section) section (axis .x)) i (toZ w64 sum) (toZ w64 moment)
 
 abbrev μ-loop : tie.MeasureT-loop
 μ-loop section law axis h sum₀ moment₀ i₀ sum moment i = h - i
@@ -70,19 +63,10 @@ few c = omega (arith, start c .pre .0 .sizes .1 .1)
 loop-again : tie.Need-loop-again Inv-loop μ-loop
 loop-again c =
     let f = c .before in
-    let i = f .before .before .before .before .loop .inv in (
-      omega arith,
-      running-next (i .1) (f .force .result) (force-is f) (f .force .ensures .1) (omega (arith, few f)),
-      running-next (i .2) (c .turned .result) (turned-is c) (c .turned .ensures .1) (omega (arith, few f)),
-    )
+    (omega arith, next (f .before .before .before .before .loop .inv .1) (few f) _ (force-is f) (f .force .ensures .1) _ (turned-is c) (c .turned .ensures .1))
 
 returns : tie.Need-returns Inv-loop μ-loop
-returns c =
-    let s = c .before .before .args .section in
-    let i = c .before .loop .inv in
-    let f = running-all (s .h) 1000 (i .1) (omega arith) (c .before .before .pre .0 .sizes .1 .1) in
-    let m = running-all (s .h) 1000 (i .2) (omega arith) (c .before .before .pre .0 .sizes .1 .1) in
-    record { forces = f .0; force-most = f .1; moments = m .0; moment-most = m .1 }
+returns c = let s = c .before .before in all (s .args .section .h) 1000 (c .before .loop .inv .1) (omega arith) (s .pre .0 .sizes .1 .1)
 
 pub strip-sums-spec : {M : Type 1} → statement M
 strip-sums-spec =
@@ -90,16 +74,16 @@ strip-sums-spec =
     (tie.spec
     Inv-loop
     μ-loop
-    (λ c. (omega arith, running-none _ _, running-none _ _))
+    (λ c. (omega arith, none _ _))
     (λ c κs. search needs)
     (λ c κs. search needs)
     force-requires
-    (λ c. running-fits (c .before .before .before .before .loop .inv .1) (c .force .result) (force-is c) (c .force .ensures .1) (omega (arith, few c)))
+    (λ c. force-fits (c .before .before .before .before .loop .inv .1) (few c) _ (force-is c) (c .force .ensures .1))
     (λ c. search needs)
     (λ c. search needs)
     (λ c. search needs)
     turned-requires
-    (λ c. running-fits (c .before .before .before .before .before .loop .inv .2) (c .turned .result) (turned-is c) (c .turned .ensures .1) (omega (arith, few (c .before))))
+    (λ c. moment-fits (c .before .before .before .before .before .loop .inv .1) (few (c .before)) _ (turned-is c) (c .turned .ensures .1))
     (λ c. search needs)
     (λ c. search needs)
     loop-again
