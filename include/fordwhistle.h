@@ -1,9 +1,9 @@
 /* fordwhistle.h: the section unit, for the panel's C program. Link libpanel.a; installed, by `pkg-config --cflags --libs fordwhistle`.
  *
- * Every function takes any input, returns, keeps nothing and calls nothing but memset. An answer begins with its refusal: 0 where the call is
- * answered, else the first number below that holds of those that concern the call, and every other number of the answer is then 0
- * (of a double, plus zero), save the count beside 15. A refused call writes nothing, and of all functions only fw_depths writes at all,
- * into the row that it is lent.
+ * Every function takes any input, returns, keeps nothing and calls nothing but memcpy and memset. An answer begins with its refusal: 0
+ * where the call is answered, else the first number below that holds of those that concern the call, and every other number of the answer
+ * is then 0 (of a double, plus zero), save the count beside 15. A refused call writes nothing, and of all functions only fw_write_book,
+ * fw_add_layer and fw_depths write at all, into what they are lent to be written.
  *
  *    1  book shorter than 16 bytes, longer than 65536, or not of its stated length
  *    2  book whose last four bytes are not BOOK
@@ -25,6 +25,7 @@
  *   16  shear without bars: m is 0
  *   17  fR1 is below 1000 kPa, or fR3 is below half the step
  *   18  strain outside -10000 to 3500, or a depth that is not on the grid, 1 to h
+ *   19  book to be written longer than the bytes lent for it or than 65536, or record to be written longer than the bytes lent for it
  *
  * Stress is in kPa (0.001 N/mm2), strain in millionths, length in mm, area in mm2. Compression is positive.
  */
@@ -67,9 +68,9 @@ extern "C" {
  *   len - 8     32   length of the book, len
  *   len - 4     32   the letters BOOK, the B at len - 4
  *
- * A function that takes a record or a book takes a pointer to len bytes that may be read. It reads no other byte and writes none of them.
- * len is any length, 0 too: what is wrong with it is refused. Where len is 0 the pointer may be null; a book is then refused 1, a record
- * 6, as any other of no bytes. */
+ * A function that takes a record, records or a book takes a pointer to len bytes that may be read. It reads no other byte and writes none
+ * of them. len is any length, 0 too: what is wrong with it is refused. Where len is 0 the pointer may be null; a book is then refused 1, a
+ * record 6, as any other of no bytes, and of records there are none. */
 
 /* What a book holds.
  * count: n, the number of its records. */
@@ -94,6 +95,30 @@ typedef struct {
  * book + at and len are handed on as they are, at whatever address that is, to the functions below that take a record. These can still
  * refuse the record of a good book: 6 where its zero is not zero, and 7 to 13. An empty part they refuse 6. */
 fw_record_answer fw_record(const uint8_t *book, size_t len, uint32_t number);
+
+/* A book or a record, written into lent bytes.
+ * len: its length; it has the first len of the bytes, and those past it stay. */
+typedef struct {
+    uint32_t refusal, len;
+} fw_written;
+
+/* Writes the book of the sections whose records stand one after another in the len bytes, in that order; of no section it has 16 bytes.
+ * A record with Asw 0 is written with s 0, whatever s it has, any other as it is.
+ * Refusal 6, then 7 to 13, of each record in turn, of 24 + 4m bytes by its own m: the first that is refused gives its number, also where
+ * the book would be too long as well. What is left at the end and is no whole record is refused 6. Then 19 where room or 65536 is less
+ * than the length of the book, which is len, 4 for each record and 16. On any refusal the len returned is 0 and all of book stays.
+ * book is a pointer to room bytes that may be read and written; none of them is part of the records. room is any number, 0 too, and book
+ * may then be null: no book has no bytes, so where no record is refused that is 19. 65536 bytes hold every book. */
+fw_written fw_write_book(const uint8_t *records, size_t len, uint8_t *book, size_t room);
+
+/* Writes a record with a layer of this depth and area added: in its place, so that the depths rise, with m one more and all else as it
+ * is, s too. Refusal 6, then 12, here where depth is outside 1 to h-1 (so always where h is 0 or 1), area is 0, a layer of that depth or
+ * 8 layers are there, or a layer that is there has its depth outside 1 to h-1 or an area of 0, or their depths do not rise strictly. No
+ * other test of a section is made: not 7 to 11, 13, nor whether the deepest layer lies below mid-height. Then 19 where room is less than
+ * the length of the new record, 24 + 4(m+1) by the m of the old. On any refusal the len returned is 0 and all of out stays.
+ * out is a pointer to room bytes that may be read and written; none of them is part of the record. room is any number, 0 too, and out may
+ * then be null. 56 bytes hold every record. */
+fw_written fw_add_layer(const uint8_t *record, size_t len, uint16_t depth, uint16_t area, uint8_t *out, size_t room);
 
 /* The class of a fibre concrete.
  * step: the largest of 1000, 1500, 2000, 2500, 3000, 3500, 4000, 4500, 5000, 6000, 7000, 8000 that is at most fR1; the step itself,

@@ -19,11 +19,12 @@ enum { ROOM = LONGEST, WORDS = 4 };
 
 static int lender;
 
-/* Where the room of records and books ends, and that of rows. */
+/* Where the room of records and books ends, and that of rows and of what is written. */
 static uint8_t *edge, *row_edge;
 
-/* What a row holds before the call. */
+/* What a row holds before the call, and what the bytes hold that a book or a record is written into. */
 static const int64_t unwritten[WORDS] = {INT64_MIN, -1, INT64_MAX, 7};
+static uint8_t blank[ROOM];
 
 /* Where the sample's records start, and where the last ends. */
 static const uint32_t places[] = {0, 24, 52};
@@ -79,7 +80,39 @@ static int is_found(fw_record_answer answer, uint32_t refusal, uint32_t at, uint
     return answer.refusal == refusal && answer.at == at && answer.len == len;
 }
 
-/* Each function that takes a record refuses this one so, whatever else it is told, and writes nothing. */
+static int is_written(fw_written answer, uint32_t refusal, uint32_t len)
+{
+    return answer.refusal == refusal && answer.len == len;
+}
+
+/* Whether what is lent to be written holds these bytes and past them what it did; it is given back. */
+static int holds(uint8_t *out, size_t room, const uint8_t *written, size_t len)
+{
+    int past = room == len || memcmp(out + len, blank + len, room - len) == 0;
+    return kept(out, written, len) && past;
+}
+
+/* Whether these records, lent, are refused so in this room, or become this book where the number is 0. */
+static int writes(const uint8_t *records, size_t len, size_t room, uint32_t refusal, const book *b)
+{
+    uint32_t size = refusal == 0 ? (uint32_t)b->len : 0;
+    uint8_t *copy = lent(edge, records, len), *out = lent(row_edge, blank, room);
+    int answered = is_written(fw_write_book(copy, len, out, room), refusal, size);
+    int held = holds(out, room, b->bytes, size);
+    return kept(copy, records, len) && held && answered;
+}
+
+/* The same of a record to which a layer is added, its area the number of its depth, so that it becomes the longer one. */
+static int adds(const uint8_t *bytes, size_t len, uint16_t depth, size_t room, uint32_t refusal, const record *longer)
+{
+    uint32_t size = refusal == 0 ? (uint32_t)longer->len : 0;
+    uint8_t *copy = lent(edge, bytes, len), *out = lent(row_edge, blank, room);
+    int answered = is_written(fw_add_layer(copy, len, depth, depth, out, room), refusal, size);
+    int held = holds(out, room, longer->bytes, size);
+    return kept(copy, bytes, len) && held && answered;
+}
+
+/* Each function that answers of a record's section refuses this one so, whatever else it is told, and writes nothing. */
 static int refuses(const uint8_t *bytes, size_t len, uint32_t refusal, size_t words)
 {
     int64_t *row = lent(row_edge, unwritten, words * sizeof *row);
@@ -140,24 +173,41 @@ static void a_null_row_has_no_words(void)
     CHECK(lists_nothing(plate, 15, 1));
 }
 
-/* A record of 0, 1, 8 and 9 layers at every length that one may have and a few more. */
+/* The beam with so many layers, each of a depth and an area of 400 and its number. */
+static record record_with(uint16_t m)
+{
+    section s = beam;
+    s.m = m;
+    for (uint16_t j = 0; j < LAYERS; j++)
+        s.layers[j].depth = s.layers[j].area = 400 + j;
+    return record_of(s);
+}
+
+/* A record of 0 to 9 layers at every length that one may have and a few more. */
 static void a_record_has_its_length(void)
 {
-    static const uint16_t layers[] = {0, 1, 8, 9};
-    for (size_t i = 0; i < sizeof layers / sizeof *layers; i++) {
-        section s = beam;
-        record r;
-        s.m = layers[i];
-        for (uint16_t j = 0; j < s.m; j++)
-            s.layers[j].depth = s.layers[j].area = 400 + j;
-        r = record_of(s);
+    for (uint16_t m = 0; m <= 9; m++) {
+        record r = record_with(m);
         for (size_t len = 0; len <= 60; len++) {
             uint8_t *copy = lent(edge, r.bytes, len);
-            CHECK(fw_draw(copy, len, 0).refusal == (len == r.len && s.m <= 8 ? 0 : 6));
+            CHECK(fw_draw(copy, len, 0).refusal == (len == r.len && m <= 8 ? 0 : 6));
             CHECK(kept(copy, r.bytes, len));
-            if (len != r.len || s.m > 8)
+            if (len != r.len || m > 8)
                 CHECK(refuses_lent(r.bytes, len, 6, WORDS));
         }
+    }
+}
+
+/* The same, into every room up to that of the longest record and a few more. */
+static void a_layer_is_added_within_its_room(void)
+{
+    for (uint16_t m = 0; m <= 9; m++) {
+        record r = record_with(m), longer = record_with(m + 1);
+        for (size_t len = 0; len <= 60; len++)
+            for (size_t room = 0; room <= 60; room++) {
+                uint32_t refusal = len != r.len || m > 8 ? 6 : m == 8 ? 12 : room < longer.len ? 19 : 0;
+                CHECK(adds(r.bytes, len, 400 + m, room, refusal, &longer));
+            }
     }
 }
 
@@ -167,6 +217,8 @@ static void a_refused_section_gives_zeros(void)
         record r = record_of(wrong_from(line));
         for (size_t words = 0; words <= WORDS; words++)
             CHECK(refuses_lent(r.bytes, r.len, line, words));
+        for (size_t room = 0; room <= 80; room++)
+            CHECK(writes(r.bytes, r.len, room, line, book_of(plate, 0)));
     }
 }
 
@@ -246,6 +298,36 @@ static void a_book_is_read_within_its_length(void)
         }
 }
 
+/* The sample's records cut, and with bytes after them, into every room up to that of the sample and a few more. */
+static void a_book_is_written_within_its_room(void)
+{
+    for (size_t len = 0; len <= 60; len++) {
+        int whole = len == 0 || len == 24 || len == 52;
+        book b = {0};
+        if (whole) {
+            memcpy(b.bytes, sample, len);
+            b.len = len;
+            add_index(&b);
+        }
+        for (size_t room = 0; room <= 80; room++)
+            CHECK(writes(sample, len, room, !whole ? 6 : room < b.len ? 19 : 0, &b));
+    }
+}
+
+/* Where nothing is lent to be read, nothing to be written, or neither. */
+static void a_null_pointer_is_no_room(void)
+{
+    uint8_t out[28];
+    CHECK(is_written(fw_write_book(NULL, 0, out, sizeof out), 0, 16));
+    CHECK(is_written(fw_write_book(NULL, 0, NULL, 0), 19, 0));
+    CHECK(is_written(fw_write_book(sample, 52, NULL, 0), 19, 0));
+    CHECK(is_written(fw_write_book(sample, 51, NULL, 0), 6, 0));
+    CHECK(is_written(fw_add_layer(NULL, 0, 60, 1, out, sizeof out), 6, 0));
+    CHECK(is_written(fw_add_layer(NULL, 0, 60, 1, NULL, 0), 6, 0));
+    CHECK(is_written(fw_add_layer(sample, 24, 60, 1, NULL, 0), 19, 0));
+    CHECK(is_written(fw_add_layer(sample, 24, 60, 0, NULL, 0), 12, 0));
+}
+
 /* The sample, wrong in one line each. */
 static void a_refused_book_gives_zeros(void)
 {
@@ -268,6 +350,7 @@ static void the_longest_book(void)
     uint8_t *copy = lent(edge, b->bytes, LONGEST);
     CHECK(is_counted(fw_book(copy, LONGEST), 0, 2340) && is_found(fw_record(copy, LONGEST, 2339), 0, 56136, 24));
     CHECK(kept(copy, b->bytes, LONGEST));
+    CHECK(writes(b->bytes, 56160, LONGEST, 0, b));
 }
 
 static void a_class_is_of_numbers(void)
@@ -283,18 +366,22 @@ int main(void)
     row_edge = edge_of(ROOM);
     if (edge == NULL || row_edge == NULL)
         no_room();
+    memset(blank, 0xa5, sizeof blank);
     for (lender = 0; lender < LENDERS; lender++) {
         a_null_pointer_is_an_empty_slice();
         a_null_row_has_no_words();
         a_record_has_its_length();
+        a_layer_is_added_within_its_room();
         a_refused_section_gives_zeros();
         the_answers_of_a_record();
         a_row_has_its_length();
         a_book_has_its_length();
         a_book_is_read_within_its_length();
+        a_book_is_written_within_its_room();
         a_refused_book_gives_zeros();
         the_longest_book();
     }
+    a_null_pointer_is_no_room();
     a_class_is_of_numbers();
     return verdict();
 }

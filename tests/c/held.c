@@ -11,9 +11,13 @@
  *   'l'  fw_depths: len and a record likewise; words, 16 bits; the row before the call and the row after it, 64 bits a word; refusal and
  *        count, 32 bits each
  *   'b'  fw_book: len, 32 bits; a book of len bytes; refusal, count, 32 bits each
- *   'r'  fw_record, of the book of the last 'b': number; refusal, at, len, 32 bits each
+ *   'r'  fw_record, of the book of the last 'b' with no 'w' since: number; refusal, at, len, 32 bits each
+ *   'w'  fw_write_book: len, 32 bits; records of len bytes in all; room, 32 bits; room bytes before the call and room bytes after it;
+ *        refusal and len, 32 bits each
+ *   'a'  fw_add_layer: len, 16 bits; a record of len bytes; depth, area, room, 16 bits each; the bytes and the answer as in 'w'
  *
- * Numbers are little-endian. Nor is a case held where the record or the book is no longer as it was lent. */
+ * Numbers are little-endian, also in a row. Nor is a case held where the record, the book or the records are no longer as they were
+ * lent. */
 #define _DEFAULT_SOURCE /* for edge.h */
 
 #include "fordwhistle.h"
@@ -25,26 +29,29 @@
 #include "bits.h"
 #include "edge.h"
 
-/* What a length of 16 bits counts at most, in whole pages of any usual size; the same for a book, which may also be too long; and the
- * words before a row that are looked at too. */
-enum { ROOM = 65536, BOOK_ROOM = 2 * ROOM, BEFORE = 64 };
+/* Whole pages of any usual size; what is lent at most, which is as many words as a length of 16 bits counts, or several times as many bytes
+ * as a book may have; and the bytes before what is lent to be written that are looked at too. */
+enum { PAGES = 65536, ROOM = 8 * PAGES, BEFORE = 64 * 8 };
 
-/* Bytes that are lent. They and rows are put where they end at an edge, and no byte from there on can be read or written. A copy says what
- * they were. */
+/* Bytes that are lent to be read. They and those to be written are put where they end at an edge, and no byte from there on can be read or
+ * written. A copy says what they were. */
 typedef struct {
     uint8_t *edge;
     size_t len;
-    uint8_t as_lent[BOOK_ROOM];
+    uint8_t as_lent[ROOM];
 } lent;
 
 static lent record_lent, book_lent;
-static int64_t *row_edge;
 
 /* Which of the two the case's function is called on, or null. */
 static const lent *in_hand;
 
-/* What the words up to row_edge should hold after the call. */
-static int64_t row_after[BEFORE + ROOM];
+/* Bytes that are lent to be written, and what they and those before them should hold after the call. */
+static struct {
+    uint8_t *edge;
+    size_t len;
+    uint8_t after[BEFORE + ROOM];
+} to_write;
 
 static unsigned long held, not_held;
 
@@ -64,6 +71,16 @@ static uint64_t number(int bytes)
         n |= (uint64_t)byte << (8 * i);
     }
     return n;
+}
+
+/* The next length of 32 bits, 0 where there is no room for so much. */
+static size_t length(void)
+{
+    size_t len = (size_t)number(4);
+    if (len <= ROOM)
+        return len;
+    broken = 1;
+    return 0;
 }
 
 /* Takes what is lent in hand; its start. */
@@ -90,22 +107,28 @@ static int told(void)
     return !broken && lines++ < 10;
 }
 
-/* The next words. */
-static void read_words(int64_t *to, size_t words)
+/* The next bytes, up to their edge, with a pattern before them; and in `after` those that should become of them, with the same. */
+static void *lend_to_write(size_t len)
 {
-    for (size_t i = 0; i < words && !broken; i++)
-        to[i] = (int64_t)number(8);
+    uint8_t *start = to_write.edge - len;
+    for (size_t i = 0; i < BEFORE; i++)
+        start[(ptrdiff_t)i - BEFORE] = to_write.after[i] = (uint8_t)(128 + i);
+    if (fread(start, 1, len, stdin) != len || fread(to_write.after + BEFORE, 1, len, stdin) != len)
+        broken = 1;
+    to_write.len = len;
+    return start;
 }
 
-/* The next row, up to its edge, with a pattern before it; and in row_after the one that should become of it, with the same. */
-static int64_t *row_of(size_t words)
+/* Which byte, counted from BEFORE bytes before what is lent to be written, is the first that is not what it should be, or the end. */
+static size_t wrong_byte(void)
 {
-    int64_t *row = row_edge - words;
-    for (size_t i = 0; i < BEFORE; i++)
-        row[(ptrdiff_t)i - BEFORE] = row_after[i] = INT64_MIN + (int64_t)i;
-    read_words(row, words);
-    read_words(row_after + BEFORE, words);
-    return row;
+    size_t at = 0, end = BEFORE + to_write.len;
+    const uint8_t *from = to_write.edge - end;
+    if (memcmp(from, to_write.after, end) == 0)
+        return end;
+    while (from[at] == to_write.after[at])
+        at++;
+    return at;
 }
 
 /* As much of a record as one of 8 layers has, or of a book. Who writes the cases reads no line before the last of them, so few bytes may
@@ -186,36 +209,62 @@ static int shear_held(void)
     return amount_held(fw_shear(record, len), "fw_shear", record, len, NULL);
 }
 
-static int depths_held(void)
+/* Whether the two numbers that come next are these, and each byte of what was lent to be written is what it should be. layer is null where
+ * the function takes none. */
+static int written_held(uint32_t refusal, uint32_t len, const char *name, const uint16_t *layer)
 {
-    size_t len = (size_t)number(2);
-    const uint8_t *record = lend(&record_lent, len);
-    size_t words = (size_t)number(2), at = 0;
-    int64_t *row = row_of(words), *from = row - BEFORE;
-    uint32_t refusal = (uint32_t)number(4), count = (uint32_t)number(4);
-    fw_listed listed = fw_depths(record, len, row, words);
-    while (at < BEFORE + words && from[at] == row_after[at])
-        at++;
-    if (listed.refusal == refusal && listed.count == count && at == BEFORE + words)
+    uint32_t right_refusal = (uint32_t)number(4), right_len = (uint32_t)number(4);
+    size_t at = wrong_byte(), end = BEFORE + to_write.len;
+    if (refusal == right_refusal && len == right_len && at == end)
         return 1;
     if (told()) {
-        printf("fw_depths(");
-        print_start(record, len);
-        printf(", %zu, row, %zu) gives %u, %u and not %u, %u", len, words, listed.refusal, listed.count, refusal, count);
-        if (at < BEFORE + words)
-            printf(", and word %td of the row is %" PRId64 " and not %" PRId64, (ptrdiff_t)at - BEFORE, from[at], row_after[at]);
+        printf("%s(", name);
+        print_start(in_hand->as_lent, in_hand->len);
+        printf(", %zu", in_hand->len);
+        if (layer != NULL)
+            printf(", %u, %u", layer[0], layer[1]);
+        printf(", and %zu bytes to write) gives %u, %u and not %u, %u", to_write.len, refusal, len, right_refusal, right_len);
+        if (at < end)
+            printf(", and byte %td is %u and not %u", (ptrdiff_t)at - BEFORE, (to_write.edge - end)[at], to_write.after[at]);
         puts("");
     }
     return 0;
 }
 
+static int depths_held(void)
+{
+    size_t len = (size_t)number(2);
+    const uint8_t *record = lend(&record_lent, len);
+    size_t words = (size_t)number(2);
+    int64_t *row = lend_to_write(words * sizeof *row);
+    fw_listed answer = fw_depths(record, len, row, words);
+    return written_held(answer.refusal, answer.count, "fw_depths", NULL);
+}
+
+static int write_book_held(void)
+{
+    size_t len = length();
+    const uint8_t *records = lend(&book_lent, len);
+    size_t room = length();
+    uint8_t *book = lend_to_write(room);
+    fw_written answer = fw_write_book(records, len, book, room);
+    return written_held(answer.refusal, answer.len, "fw_write_book", NULL);
+}
+
+static int add_layer_held(void)
+{
+    size_t len = (size_t)number(2);
+    const uint8_t *record = lend(&record_lent, len);
+    uint16_t depth = (uint16_t)number(2), area = (uint16_t)number(2), layer[] = {depth, area};
+    size_t room = (size_t)number(2);
+    uint8_t *out = lend_to_write(room);
+    fw_written answer = fw_add_layer(record, len, depth, area, out, room);
+    return written_held(answer.refusal, answer.len, "fw_add_layer", layer);
+}
+
 static int book_held(void)
 {
-    size_t len = (size_t)number(4);
-    if (len > BOOK_ROOM) {
-        broken = 1;
-        return 0;
-    }
+    size_t len = length();
     const uint8_t *book = lend(&book_lent, len);
     uint32_t refusal = (uint32_t)number(4), count = (uint32_t)number(4);
     fw_book_answer answer = fw_book(book, len);
@@ -258,6 +307,8 @@ static int case_held(int function)
     case 'l': return depths_held();
     case 'b': return book_held();
     case 'r': return record_held();
+    case 'w': return write_book_held();
+    case 'a': return add_layer_held();
     }
     printf("no function is '%c'\n", function);
     broken = 1;
@@ -277,9 +328,9 @@ static int unchanged(int function)
 int main(void)
 {
     record_lent.edge = edge_of(ROOM);
-    book_lent.edge = edge_of(BOOK_ROOM);
-    row_edge = edge_of(sizeof *row_edge * ROOM + ROOM);
-    if (record_lent.edge == NULL || book_lent.edge == NULL || row_edge == NULL) {
+    book_lent.edge = edge_of(ROOM);
+    to_write.edge = edge_of(ROOM + PAGES);
+    if (record_lent.edge == NULL || book_lent.edge == NULL || to_write.edge == NULL) {
         puts("no room for a record, a book and a row");
         return 1;
     }

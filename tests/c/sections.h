@@ -19,6 +19,13 @@ static inline section with_layers(section s, uint16_t depth0, uint16_t area0, ui
     return s;
 }
 
+static inline section with_stirrups(section s, uint16_t asw, uint16_t spacing)
+{
+    s.asw = asw;
+    s.s = spacing;
+    return s;
+}
+
 /* Wrong in this line of the table of refusals, 6 to 13, and in each after it, and at the limit of each before it; from 14 on it is
  * accepted. A call that tests the lines in another order gives another number. */
 static inline section wrong_from(uint32_t line)

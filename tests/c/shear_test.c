@@ -37,13 +37,6 @@ static section with_area(section s, uint16_t area)
     return s;
 }
 
-static section with_stirrups(section s, uint16_t asw, uint16_t spacing)
-{
-    s.asw = asw;
-    s.s = spacing;
-    return s;
-}
-
 static void the_figures(void)
 {
     CHECK(refuses(plate, 16));

@@ -63,12 +63,13 @@ named() {
 }
 
 # Those that take a section, a record or a book, whatever they answer, and those whose answer bears a number, whatever
-# they take; but for what a section has, which is told of any section.
+# they take; but for what a section has, which is told of any section, and numbers in bytes, which are told of any.
 refusing() {
     local answers
     answers=$(awk '/^pub struct / { name = $3 } /^    pub refusal: / { print name }' crates/*/src/*.rt | paste -sd '|')
     signatures | grep -E "	.*(: Section\\b|&\\[u8\\]|-> ($answers)\\b)" | cut -f1 |
-        grep -vE '^section\.Section\.(last_depth|steel_area)$' | join -t '	' - <(named) | cut -f2 | sort
+        grep -vE '^(section\.Section\.(last_depth|steel_area)|record\.(byte|le32|layers_at|size_at))$' |
+        join -t '	' - <(named) | cut -f2 | sort
 }
 
 # Those that answer anything but a refusal.
@@ -76,11 +77,12 @@ answering() {
     contracts | grep -v -- '-refused$'
 }
 
-# Each contract is decided, and so is the row of one that is lent a row.
+# Each contract is decided, and so is the row, or are the bytes, of one that is lent them to write.
 all_decided() {
     {
         contracts | sed 's/.*/& &/'
-        sed -nE 's/^abbrev pub ([a-z0-9-]+) : \(.* → List ℤ → Type 0\) → .*/\1-row \1/p' "$specs/Every.antt"
+        sed -nE 's/^abbrev pub ([a-z0-9-]+) : \(.* → List ℤ → Type 0\) → .*/\1-row \1/p
+            s/^abbrev pub ([a-z0-9-]+) : \(.* → Written → List ℕ → Type 0\) → .*/\1-bytes \1/p' "$specs/Every.antt"
     } | sort >target/tests/expected
     sed -nE 's/^  pub ([a-z0-9-]+) : One(In)? Contracts\.([a-z0-9-]+).*/\1 \3/p' "$specs/Decided.antt" | sort | same
 }
@@ -93,7 +95,8 @@ all_free() {
 
 # What each function of the C face takes and gives, in the header's order.
 all_wide() {
-    sed -nE 's/^fw_[a-z_]+ (fw_[a-z]+)\(.*/\1/p' include/fordwhistle.h | tr _ - | sed 's/.*/Takes &\nGives &/' >target/tests/expected
+    sed -nE 's/^fw_[a-z_]+ (fw_[a-z_]+)\(.*/\1/p' include/fordwhistle.h | tr _ - |
+        sed 's/.*/Takes &\nGives &/' >target/tests/expected
     sed -nE 's/^  pub [a-z-]+ : (Takes|Gives) Contracts\.([a-z-]+) .*/\1 \2/p' "$specs/Widths.antt" | same
 }
 
@@ -137,7 +140,7 @@ narrowed() {
         s/record_place\(bytes, number\)/record_place(bytes, number as u32)/
         /fn fw_imbalance\(/s/x: u32/x: u16/
         s/imbalance\(answer.section, x\)/imbalance(answer.section, x as u32)/' "$copy/crates/panel/src/lib.rt" &&
-        [ "$(grep -c 'u16' "$copy/crates/panel/src/lib.rt")" -eq 3 ]
+        [ "$(grep -c 'u16' "$copy/crates/panel/src/lib.rt")" -eq 4 ]
 }
 
 # The laws are of the rounded stresses in place of the exact ones, and allow twice the area.
@@ -160,7 +163,7 @@ check 'every edit is explained' all_explained
 check 'a face that tells nothing can be made' untold
 check 'and proved' proved panel
 check 'the statements of it fail, and no other' \
-    refused_at '^  fw-[a-z-]+ = ' Decided.antt Demand1.antt Demand2.antt Demand3.antt
+    refused_at '^  fw-[a-z-]+ = ' Decided.antt Demand1.antt Demand2.antt Demand3.antt Request1.antt
 check 'a narrower face can be made' narrowed
 check 'and proved' proved panel
 check 'its widths are refused, and no other statement' refused_at '^  fw-(record|imbalance) = ' Widths.antt

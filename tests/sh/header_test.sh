@@ -7,7 +7,7 @@ flags=(-Iinclude -pedantic -Wall -Wextra -Wconversion -Wshadow -Wundef -Werror -
 
 # The functions that it declares.
 functions() {
-    sed -nE 's/^fw_[a-z_]+ (fw_[a-z]+)\(.*/\1/p' include/fordwhistle.h | sort
+    sed -nE 's/^fw_[a-z_]+ (fw_[a-z_]+)\(.*/\1/p' include/fordwhistle.h | sort
 }
 
 # A program in C++ that names each, and what its object file asks the linker for.
@@ -18,7 +18,7 @@ c_names() {
     } >target/tests/header.cc
     functions >target/tests/expected
     g++ -std=c++11 -Iinclude -c target/tests/header.cc -o target/tests/header.o &&
-        nm -u target/tests/header.o | awk '{ print $NF }' | sort | cmp - target/tests/expected && [ "$(functions | wc -l)" -eq 8 ]
+        nm -u target/tests/header.o | awk '{ print $NF }' | sort | cmp - target/tests/expected && [ "$(functions | wc -l)" -eq 10 ]
 }
 
 check 'C99' gcc -std=c99 "${flags[@]}" -Wstrict-prototypes -x c include/fordwhistle.h

@@ -10,3 +10,4 @@ pub mod Floats
 pub mod Nearest
 pub mod Largest
 pub mod Floor
+pub mod Joined

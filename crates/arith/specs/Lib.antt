@@ -4,3 +4,4 @@ pub mod Floats
 pub mod Sums
 pub mod Floor
 pub mod Largest
+pub mod Joined

@@ -8,23 +8,12 @@ use lib.Dec.{ltb, leb, eqb}
 use lib.ListN.{length}
 use borrow.Author.Tests.{leb-true, eqb-true, le-leb, eq-eqb}
 use Rattle.arith.specs.Below.{allBelow}
-use Rattle.arith.proofs.Tests.{both, all-below, below-all, Decides, is-less, is-most, is-same, is-both}
+use Rattle.arith.proofs.Tests.{both, all-below, below-all, Decides, is-less, is-same, is-both}
 use Rattle.section.specs.Refusal.{line}
 use Rattle.section.proofs.Lines.{passes, none-of, between}
-use Rattle.book.specs.Record.{le16At, layersAt, sizeAt, recordRight, recordRefusal}
+use Rattle.record.specs.Record.{layersAt}
 use Rattle.book.specs.Book.{indexOf, countOf, statedLength, byteFromEnd, startOf, endOf, lengthRight, lettersRight, indexRight, endsRight, recordsRight, bookRefusal, askedRefusal}
-use Rattle.book.specs.Good.{LengthStands, LettersStand, IndexStands, StandsIn, RecordsStand, GoodBook, StandsAlone}
-
--- a lone record
-pub stands-alone : (r : List ℕ) → Decides (recordRight r) (StandsAlone r)
-unfolding recordRight
-stands-alone r =
-    Iff·trans (is-both (is-both (is-same (length r) (sizeAt r 0)) (is-most (layersAt r 0) 8)) (is-same (le16At r 22) 0))
-    (λ p. (p .0 .0, p .0 .1, p .1), λ p. ((p .0, p .1), p .2))
-
-pub record-stands : (r : List ℕ) → (recordRefusal r ≡ 0) ↔ StandsAlone r
-unfolding recordRefusal
-record-stands r = (λ e. passes 5 0 (stands-alone r) e .0, λ a. rw (stands-alone r .1 a))
+use Rattle.book.specs.Good.{LengthStands, LettersStand, IndexStands, StandsIn, RecordsStand, GoodBook}
 
 module _ (s : List ℕ) where
   -- ---- line by line

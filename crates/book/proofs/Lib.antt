@@ -1,4 +1,3 @@
-pub mod Places
 pub mod Answers
 pub mod Good
 pub mod Parts

@@ -12,7 +12,7 @@ use borrow.Author.Tests.{eq-eqb, le-leb}
 use Rattle.arith.proofs.Answers.{of-answer, refuses}
 use Rattle.section.specs.Refusal.{line}
 use Rattle.book.specs.declared.RecordAnswer.{RecordAnswer}
-use Rattle.book.specs.Record.{le16At, sizeAt, recordRight, recordRefusal}
+use Rattle.record.specs.Record.{le16At, sizeAt, recordRight, recordRefusal}
 use Rattle.book.specs.Book.{startOf, askedRefusal, noRecord, recordAnswer, partOf, recordOf}
 use Rattle.book.specs.Good.{GoodBook, StandsIn, Shows}
 use Rattle.book.proofs.Good.{good, asked}
@@ -25,7 +25,7 @@ module _ (s : List ℕ) (i : ℕ) where
     stands : StandsIn s i
     stands = book-good .records .each i (asked s i ok .1)
 
-    part-is : recordOf s i ≡ partOf s (startOf s i) (sizeAt s (startOf s i))
+    pub part-is : recordOf s i ≡ partOf s (startOf s i) (sizeAt s (startOf s i))
     unfolding recordOf
     part-is = rw ok
 

@@ -9,7 +9,7 @@ use Rattle.arith.specs.Below.{allBelow}
 use Rattle.section.specs.Refusal.{line, firstOf, within}
 use Rattle.book.specs.declared.BookAnswer.{BookAnswer}
 use Rattle.book.specs.declared.RecordAnswer.{RecordAnswer}
-use Rattle.book.specs.Record.{le32At, layersAt, sizeAt}
+use Rattle.record.specs.Record.{le32At, layersAt, sizeAt}
 
 -- ---- the last 16 bytes: the place of the index, n, the length of the book, the letters BOOK
 abbrev pub indexOf : List ℕ → ℕ

@@ -1,10 +1,10 @@
--- What a good book is, and a good record by itself: document 01's table of refusals in its words, line by line. And what is filed for a record.
+-- What a good book is: document 01's table of refusals in its words, line by line. And what is filed for a record.
 use Prim.Native.Nat.{ℕ, _+_, _*_, _≤_, _<_}
 use mathlib.Core.Path.{_≡_}
 use mathlib.Core.List.{List}
 use lib.ListN.{length, getD}
 use Rattle.section.specs.Accepted.{Between}
-use Rattle.book.specs.Record.{le16At, layersAt, sizeAt}
+use Rattle.record.specs.Record.{layersAt, sizeAt}
 use Rattle.book.specs.Book.{indexOf, countOf, statedLength, byteFromEnd, startOf, endOf}
 
 -- 1: of 16 to 65,536 bytes, and of its stated length
@@ -34,10 +34,6 @@ pub record GoodBook (s : List ℕ) : Type 0 where
   pub letters : LettersStand s
   pub index : IndexStands s
   pub records : RecordsStand s
-
--- 6: a lone record has 24 + 4m bytes, m at most 8, and its zero is zero
-abbrev pub StandsAlone : List ℕ → Type 0
-StandsAlone r = (length r ≡ sizeAt r 0) × (layersAt r 0 ≤ 8) × (le16At r 22 ≡ 0)
 
 -- a part shows record i: it has the record's 24 + 4m bytes, and each is the book's, from the record's place on
 pub record Shows (s : List ℕ) (i : ℕ) (part : List ℕ) : Type 0 where

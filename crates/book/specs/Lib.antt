@@ -1,4 +1,3 @@
-pub mod Record
 pub mod Book
 pub mod Good
 pub mod Code

@@ -1,18 +1,13 @@
-// The section book (document 01): its checks, a record as a part of it, and a section out of one record.
-mod number;
-
+// The section book (document 01): its checks, and a record as a part of it.
 ghost use mathlib.Core.Path.{_≡_};
 ghost use Prim.Native.Nat.{_+_, _<_, _^_};
 ghost use Rattle.arith.specs.Below.{allBelow};
 ghost use Rattle.book.specs.Code.{Sized};
 ghost use Rattle.book.specs.Book.{indexOf, countOf, startOf, lengthRight, lettersRight, indexRight, endsRight, recordsRight, bookRefusal, bookAnswer, askedRefusal, recordAnswer, recordOf};
-ghost use Rattle.book.specs.Record.{layersAt, sizeAt, recordRight, layerIn, layersIn, sectionIn, noSection, sectionAnswer};
-use number::byte;
-use number::le16;
-use number::le32;
-use number::signed;
-use section::Layer;
-use section::Section;
+use record::byte;
+use record::layers_at;
+use record::le32;
+use record::size_at;
 
 #[repr(C)]
 pub struct BookAnswer {
@@ -25,110 +20,6 @@ pub struct RecordAnswer {
     pub refusal: u32,
     pub at: u32,
     pub len: u32,
-}
-
-pub struct SectionAnswer {
-    pub refusal: u32,
-    pub section: Section,
-}
-
-// Of a record that starts at a place.
-fn layers_at(bytes: &[u8], at: usize) -> u16
-    requires { ⌜ at < 2 ^ 32 ⌝ }
-    ensures { λ r. ⌜ r ≡ layersAt (now (bytes .entry)) at ⌝ }
-{
-    le16(bytes, at + 20)
-}
-
-fn size_at(bytes: &[u8], at: usize) -> usize
-    requires { ⌜ at < 2 ^ 32 ⌝ }
-    ensures { λ r. ⌜ (r ≡ sizeAt (now (bytes .entry)) at) × (r < 2 ^ 32) ⌝ }
-{
-    24 + 4 * (layers_at(bytes, at) as usize)
-}
-
-fn record_right(part: &[u8]) -> bool
-    ensures { λ r. ⌜ r ≡ recordRight (now (part .entry)) ⌝ }
-{
-    (part.len() == size_at(part, 0)) & (layers_at(part, 0) <= 8) & (le16(part, 22) == 0)
-}
-
-fn layer_in(part: &[u8], j: usize) -> Layer
-    requires { ⌜ j < 8 ⌝ }
-    ensures { λ r. ⌜ r ≡ layerIn (now (part .entry)) j ⌝ }
-{
-    Layer {
-        depth: le16(part, 24 + 4 * j),
-        area: le16(part, 26 + 4 * j),
-    }
-}
-
-// All eight places: past the layer count a record that is right has ended, so there they are zero.
-fn layers_in(part: &[u8]) -> [Layer; 8]
-    ensures { λ r. ⌜ r ≡ layersIn (now (part .entry)) ⌝ }
-{
-    [
-        layer_in(part, 0),
-        layer_in(part, 1),
-        layer_in(part, 2),
-        layer_in(part, 3),
-        layer_in(part, 4),
-        layer_in(part, 5),
-        layer_in(part, 6),
-        layer_in(part, 7),
-    ]
-}
-
-fn section_in(part: &[u8]) -> Section
-    ensures { λ r. ⌜ r ≡ sectionIn (now (part .entry)) ⌝ }
-{
-    Section {
-        b: le16(part, 0),
-        h: le16(part, 2),
-        fck: le16(part, 4),
-        fyk: le16(part, 6),
-        feq2: le16(part, 8),
-        feq3: le16(part, 10),
-        load: signed(le32(part, 12)),
-        asw: le16(part, 16),
-        spacing: le16(part, 18),
-        count: layers_at(part, 0),
-        layers: layers_in(part),
-    }
-}
-
-fn no_section() -> Section
-    ensures { λ r. ⌜ r ≡ noSection ⌝ }
-{
-    Section {
-        b: 0,
-        h: 0,
-        fck: 0,
-        fyk: 0,
-        feq2: 0,
-        feq3: 0,
-        load: 0,
-        asw: 0,
-        spacing: 0,
-        count: 0,
-        layers: [Layer { depth: 0, area: 0 }; 8],
-    }
-}
-
-// The section of a lone record; or 6 and zeros.
-pub fn section_of(part: &[u8]) -> SectionAnswer
-    ensures { λ r. ⌜ r ≡ sectionAnswer (now (part .entry)) ⌝ }
-{
-    if !record_right(part) {
-        return SectionAnswer {
-            refusal: 6,
-            section: no_section(),
-        };
-    }
-    SectionAnswer {
-        refusal: 0,
-        section: section_in(part),
-    }
 }
 
 fn length_right(book: &[u8]) -> bool

@@ -12,7 +12,7 @@ use Rattle.section.specs.Amount.{noAmount}
 use Rattle.depths.specs.Depths.{Entry, entryOf, listed}
 use Rattle.depths.specs.Answers.{depthsRefusal}
 use Rattle.shear.specs.Shear.{shearAnswer}
-use Rattle.book.specs.Record.{ofRecord}
+use Rattle.record.specs.Record.{ofRecord}
 use Rattle.booklines.specs.declared.Bending.{Bending}
 use Rattle.booklines.specs.declared.Line.{Line}
 

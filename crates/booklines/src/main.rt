@@ -81,7 +81,7 @@ fn bending_of(section: Section) -> Bending
 fn line_of(part: &[u8]) -> Line
     ensures { λ r. ⌜ r ≡ lineOf (now (part .entry)) ⌝ }
 {
-    let answer = book::section_of(part);
+    let answer = record::section_of(part);
     if answer.refusal != 0 {
         return Line {
             bending: Bending::refused(answer.refusal),

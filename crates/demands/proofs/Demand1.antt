@@ -5,7 +5,7 @@ use mathlib.Core.Logic.{_↔_, Iff·trans}
 use mathlib.Core.List.{List, [], _++_}
 use native.Mathlib.Omega.{arith}
 use lib.IntN.{ℤ, pos}
-use lib.ListN.{length}
+use lib.ListN.{length, replicate}
 use Rattle.arith.proofs.Answers.{of-answers}
 use Rattle.section.specs.declared.Layer.{Layer}
 use Rattle.section.specs.declared.Section.{Section}
@@ -28,20 +28,25 @@ use Rattle.depths.proofs.Shown.{row-kept}
 use Rattle.shear.specs.Shear.{shearRefusal, shearAnswer}
 use Rattle.book.specs.declared.BookAnswer.{BookAnswer}
 use Rattle.book.specs.declared.RecordAnswer.{RecordAnswer}
-use Rattle.book.specs.declared.SectionAnswer.{SectionAnswer}
-use Rattle.book.specs.Record.{noSection, recordRefusal, sectionIn, sectionAnswer}
-use Rattle.book.specs.Record as Record
+use Rattle.record.specs.declared.SectionAnswer.{SectionAnswer}
+use Rattle.record.specs.Record.{noSection, recordRefusal, sectionIn, sectionAnswer}
+use Rattle.record.specs.Record as Record
+use Rattle.record.specs.declared.RecordBytes.{RecordBytes}
+use Rattle.record.specs.Filed.{filedRefusal, filedAnswer, asWritten}
 use Rattle.book.specs.Book.{bookRefusal, bookAnswer, askedRefusal, recordAnswer, recordOf}
 use Rattle.book.proofs.Parts.{empty-exactly}
+use Rattle.writer.specs.declared.Written.{Written}
+use Rattle.writer.specs.Written.{unwritten, writeRefusal, writeAnswer, bookAfter, addRefusal, addAnswer, recordAfter}
 use Rattle.class.specs.declared.ClassAnswer.{ClassAnswer}
 use Rattle.class.specs.Class.{classRefusal, classAnswer}
 use Rattle.class.specs.Class as Class
 use Rattle.panel.specs.Face.{drawnOf, imbalanceOf, momentOf, listOf, rowOf, shearOf}
-use Rattle.demands.specs.Table.{Line, First, bookLines, askedLines, loneLines, sectionLines, layerLines, depthsLines, shearLines, classLines, strainLines, gridLines}
-use Rattle.demands.specs.Demand1.{Refuses, RefusesList, Demand1}
+use Rattle.demands.specs.Table.{Line, First, bookLines, askedLines, loneLines, sectionLines, layerLines, filedLines, writeLines, addLines, depthsLines, shearLines, classLines, strainLines, gridLines}
+use Rattle.demands.specs.Demand1.{Refuses, RefusesList, RefusesBytes, Demand1}
 use Rattle.demands.proofs.Free.{free}
-use Rattle.demands.proofs.Shapes.{sections, laws, points, amounts, listings, books, places, records, classes, alone, of-record}
+use Rattle.demands.proofs.Shapes.{sections, laws, points, amounts, listings, books, places, records, filings, writings, classes, alone, of-record}
 use Rattle.demands.proofs.Table.{exactly, first-most, book-first, asked-first, lone-first, section-first, layer-first, list-first}
+use Rattle.demands.proofs.Table.{filed-first, add-first, write-first, write-numbered}
 use Rattle.demands.proofs.Table.{shear-first, class-first, strain-first, grid-first, not-fifteen}
 
 -- ---- each answer
@@ -83,6 +88,36 @@ class-refuses : (fr1 fr3 : ℕ) {x : ClassAnswer} → x ≡ classAnswer fr1 fr3 
 unfolding classAnswer
 class-refuses fr1 fr3 = alone classes (classLines fr1 fr3) (classRefusal fr1 fr3) _ refl (class-first fr1 fr3) refl
 
+filed-refuses : (s : Section) {x : RecordBytes} → x ≡ filedAnswer s → Refuses (filedLines s) (x .refusal) ((x .len ≡ 0) × (x .bytes ≡ replicate 56 0))
+unfolding filedAnswer
+filed-refuses s = alone filings (filedLines s) (filedRefusal s) _ refl (filed-first s) refl
+
+-- ---- a book and a record that are written: beside a refusal the lent bytes stay
+Stays : List ℕ → Written → List ℕ → Type 0
+Stays before x after = (x .refusal ≡ 0 → ⊥) → after ≡ before
+
+module _ (r before : List ℕ) {x : Written} {after : List ℕ} where
+  write-refuses : x ≡ writeAnswer r (length before) → after ≡ bookAfter r before → RefusesBytes (writeLines r (length before)) before x after
+  unfolding writeAnswer bookAfter Stays
+  write-refuses is left = record {
+    refuses = alone writings (writeLines r (length before)) (writeRefusal r (length before)) _ (write-numbered r (length before)) (write-first r (length before)) refl is;
+    bytes = rw (is, left) (of-answers (Stays before) (writeRefusal r (length before)) _ _ unwritten (λ k. before) (λ e h. absurd (h refl)) (λ k h. refl));
+  }
+
+  add-refuses :
+      (l : Layer) → x ≡ addAnswer r l (length before) → after ≡ recordAfter r l before
+      → RefusesBytes (loneLines r ++ addLines (sectionIn r) l (length before)) before x after
+  unfolding addAnswer recordAfter Stays
+  add-refuses l is left =
+      let s = sectionIn r in
+      let room = length before in
+      record {
+        refuses = of-record writings r _ _ (alone writings (addLines s l room) (addRefusal s l room) _ refl (add-first s l room) refl refl) is;
+        bytes = rw (is, left)
+            (of-answers (Stays before) (recordRefusal r) _ _ unwritten (λ k. before)
+            (λ e. of-answers (Stays before) (addRefusal s l room) _ _ unwritten (λ k. before) (λ e h. absurd (h refl)) (λ k h. refl)) (λ k h. refl));
+      }
+
 -- the part is empty exactly where a line holds
 part-refused : (s : List ℕ) (i : ℕ) → (recordOf s i ≡ []) ↔ (First (askedLines s i) 0 → ⊥)
 part-refused s i =
@@ -115,7 +150,7 @@ module _ (r : List ℕ) (before : List ℤ) where
       rw left (record { refuses = of-record listings r _ _ (inner .refuses) is; needed = rw (← is) at (rest .0); row = rw (← is) at (rest .1) })
 
 pub demand1 : Demand1
-unfolding drawnOf imbalanceOf momentOf shearOf
+unfolding drawnOf imbalanceOf momentOf shearOf asWritten
 demand1 = record {
   free = free;
   section-refusal = λ κs a x e p. rw p (exactly _ _ (section-first (a .0)));
@@ -130,12 +165,18 @@ demand1 = record {
   record-place = λ κs a x e p. place-refuses (a .0 .now) (a .1 .0) p;
   record-part = λ κs a x e p. rw p (part-refused (a .0 .now) (a .1 .0));
   section-of = λ κs a x e p. section-refuses (a .0 .now) p;
+  filed = λ κs a x e p. filed-refuses (a .0) p;
+  record-of = λ κs a x e p. filed-refuses (asWritten (a .0)) p;
+  write-book = λ κs a x e p. write-refuses (a .0 .now) (a .1 .0 .now) (p .0) (p .1);
+  add-layer = λ κs a x e p. add-refuses (a .0 .now) (a .1 .1 .1 .0 .now) _ (p .0) (p .1);
   class = λ κs a x e p. class-refuses (a .0) (a .1 .0) p;
   drawn-refused = λ κs a x e p. rw p (refl, refl);
   amount-refused = λ κs a x e p. rw p (refl, refl);
   listing-refused = λ κs a x e p. rw p (refl, refl);
   fw-book = λ κs a x e p. book-refuses (a .0 .now) p;
   fw-record = λ κs a x e p. place-refuses (a .0 .now) (a .1 .0) p;
+  fw-write-book = λ κs a x e p. write-refuses (a .0 .now) (a .1 .0 .now) (p .0) (p .1);
+  fw-add-layer = λ κs a x e p. add-refuses (a .0 .now) (a .1 .1 .1 .0 .now) _ (p .0) (p .1);
   fw-class = λ κs a x e p. class-refuses (a .0) (a .1 .0) p;
   fw-draw = λ κs a x e p. of-record points (a .0 .now) _ _ (draw-refuses (sectionIn (a .0 .now)) (a .1 .0) refl) p;
   fw-imbalance = λ κs a x e p. of-record amounts (a .0 .now) _ _ (amount-refuses (sectionIn (a .0 .now)) (a .1 .0) _ refl) p;

@@ -4,14 +4,18 @@ use mathlib.Core.Path.{_≡_, refl, sym, ap, _∙_}
 use mathlib.Core.List.{List}
 use native.Mathlib.Nat.{add-sub-cancel-left}
 use lib.IntN.{ℤ, pos}
-use lib.ListN.{length}
+use lib.ListN.{length, take}
 use Rattle.arith.specs.Sums.{sumZ, after}
+use Rattle.arith.specs.Joined.{over}
+use Rattle.arith.proofs.Tests.{is-most}
+use Rattle.arith.proofs.Joined.{over-front}
 use Rattle.section.specs.declared.Layer.{Layer}
 use Rattle.section.specs.declared.Section.{Section}
 use Rattle.section.specs.declared.Added.{Added}
 use Rattle.section.specs.Refusal.{sectionRefusal}
 use Rattle.section.specs.Accepted.{Accepted}
 use Rattle.section.specs.Added.{layerRefusal, withLayer, addedAnswer}
+use Rattle.section.proofs.Lines.{passes, none-of}
 use Rattle.section.proofs.Accepted.{layers-are, accepted-exactly}
 use Rattle.section.proofs.Inserted.{layers-added, added-right}
 use Rattle.law.specs.declared.Law.{Law}
@@ -21,7 +25,7 @@ use Rattle.law.specs.Law as Law
 use Rattle.law.specs.Stress.{Stress, size}
 use Rattle.law.specs.Sizes.{sizeIn}
 use Rattle.law.proofs.Sizes.{small-law}
-use Rattle.law.proofs.Answers.{passes}
+use Rattle.law.proofs.Answers as LawAnswers
 use Rattle.drawn.specs.declared.Drawn.{Drawn}
 use Rattle.drawn.specs.Drawn.{pointAt, drawnRefusal, drawn, drawnAnswer}
 use Rattle.drawn.specs.Drawn as Drawn
@@ -42,20 +46,28 @@ use Rattle.shear.specs.Shear.{resistance, shearRefusal, shearAnswer}
 use Rattle.shear.proofs.Theorems.{square-root, cube-root, axial-floor}
 use Rattle.book.specs.declared.BookAnswer.{BookAnswer}
 use Rattle.book.specs.declared.RecordAnswer.{RecordAnswer}
-use Rattle.book.specs.declared.SectionAnswer.{SectionAnswer}
-use Rattle.book.specs.Record.{recordRefusal, sectionIn, sectionAnswer}
-use Rattle.book.specs.Record as Record
+use Rattle.record.specs.declared.SectionAnswer.{SectionAnswer}
+use Rattle.record.specs.declared.RecordBytes.{RecordBytes}
+use Rattle.record.specs.Record.{Bytes, recordSize, recordRefusal, sectionIn, sectionAnswer}
+use Rattle.record.specs.Filed.{filed, asWritten, asRead, filedRefusal, filedAnswer}
+use Rattle.record.proofs.Alone.{record-stands}
+use Rattle.record.proofs.Answers.{number-is, section-there}
+use Rattle.record.proofs.Inverse.{filed-stands, section-filed, filed-front}
+use Rattle.record.specs.Record as Record
 use Rattle.book.specs.Book.{countOf, bookRefusal, bookAnswer, askedRefusal, recordAnswer, recordOf}
 use Rattle.book.specs.Good.{Shows}
 use Rattle.book.proofs.Parts.{part-shows, place-inside, place-part}
-use Rattle.book.proofs.Places.{zero-past-count}
+use Rattle.record.proofs.Places.{zero-past-count}
+use Rattle.writer.specs.declared.Written.{Written}
+use Rattle.writer.specs.Written.{bookIn, writeRefusal, writeAnswer, bookAfter, layerRecord, addRefusal, addAnswer, recordAfter}
+use Rattle.writer.proofs.Layers.{layer-length, layer-reads}
 use Rattle.class.specs.declared.ClassAnswer.{ClassAnswer}
 use Rattle.class.specs.Class.{classRefusal, classAnswer}
 use Rattle.class.specs.Class as Class
 use Rattle.panel.specs.Face.{drawnOf, imbalanceOf, momentOf, listOf, rowOf, shearOf}
 use Rattle.demands.specs.Table.{First, askedLines}
-use Rattle.demands.specs.Demand2.{Between, LayerAdded, ZeroPast, ClassIs, PointIs, ListIs, PlaceIs, Demand2}
-use Rattle.demands.proofs.Shapes.{sections, points, amounts, listings, books, places, records, classes, grants}
+use Rattle.demands.specs.Demand2.{Between, LayerAdded, ZeroPast, ClassIs, PointIs, ListIs, PlaceIs, ReadsAs, Held, LayerPut, Demand2}
+use Rattle.demands.proofs.Shapes.{sections, points, amounts, listings, books, places, records, filings, writings, classes, grants}
 use Rattle.demands.proofs.Table.{exactly, asked-first}
 
 -- ---- each answer where it is not refused
@@ -74,7 +86,7 @@ module _ (s : Section) where
       rw (g .1) (refl, layers-added s l, layers-are (withLayer s l) .0 (added-right s l (g .0)))
 
   law-is : {x : LawAnswer} → x ≡ lawAnswer s → x .refusal ≡ 0 → x .law ≡ lawOf s
-  law-is is h = passes s is h .1
+  law-is is h = LawAnswers.passes s is h .1
 
   point-is : (e : ℤ) {x : Drawn} → x ≡ drawnAnswer s e → x .refusal ≡ 0 → PointIs s e x
   unfolding drawnAnswer
@@ -128,8 +140,41 @@ module _ (r : List ℕ) where
       let g = grants listings (recordRefusal r) _ is h in
       list-is (sectionIn r) before (g .1) (rw (g .0) at left) h
 
+  -- a record in some bytes, that is read as a section
+  read-as : (bytes : List ℕ) (len : ℕ) {s : Section} → take len bytes ≡ r → recordRefusal r ≡ 0 → sectionIn r ≡ s → ReadsAs bytes len s
+  read-as bytes len there ok is κs a y e p q =
+      let from : y ≡ sectionAnswer r = rw (q ∙ there) at p in
+      (number-is r from ∙ ok, section-there r from ok ∙ is)
+
+-- ---- and back
+filed-is : (s : Section) {x : RecordBytes} → x ≡ filedAnswer s → x .refusal ≡ 0 → (x .len ≡ recordSize (s .count)) × (Held s → ReadsAs (x .bytes) (x .len) (asRead s))
+unfolding filedAnswer
+filed-is s {x} is h =
+    let few = passes 11 0 (is-most (s .count) 8) (grants filings (filedRefusal s) _ is h .0) .0 in
+    let front = filed-front s is few in
+    (front .len, λ held. read-as (filed s) (x .bytes) (x .len) (front .bytes) (record-stands (filed s) .1 (filed-stands s few)) (section-filed s held))
+
+module _ (r before : List ℕ) {x : Written} {after : List ℕ} where
+  write-is : x ≡ writeAnswer r (length before) → after ≡ bookAfter r before → x .refusal ≡ 0 → (x .len ≡ length (bookIn r)) × (after ≡ over (bookIn r) before)
+  unfolding writeAnswer bookAfter
+  write-is is left h =
+      let g = grants writings (writeRefusal r (length before)) _ is h in
+      (ap (λ (w : Written). w .len) (g .1), left ∙ rw (g .0))
+
+  add-is : (l : Layer) → x ≡ addAnswer r l (length before) → after ≡ recordAfter r l before → x .refusal ≡ 0 → LayerPut r l before x after
+  unfolding addAnswer recordAfter addRefusal
+  add-is l is left h =
+      let s = sectionIn r in
+      let g = grants writings (recordRefusal r) _ is h in
+      let k = grants writings (addRefusal s l (length before)) _ (g .1) h in
+      let len = ap (λ (w : Written). w .len) (k .1) in
+      let put : after ≡ over (layerRecord s l) before = left ∙ rw (g .0, k .0) in
+      let there : take (x .len) after ≡ layerRecord s l = rw (put, len, ← (layer-length s l)) (over-front (layerRecord s l) before) in
+      let fits = none-of (layerRefusal s l) _ (k .0) .0 in
+      (len, put, λ b. let reads = layer-reads r l b (g .0) fits in read-as (layerRecord s l) after (x .len) there (reads .0) (reads .1))
+
 pub demand2 : Demand2
-unfolding drawnOf imbalanceOf momentOf shearOf
+unfolding drawnOf imbalanceOf momentOf shearOf asWritten
 demand2 = record {
   section-refusal = λ κs a x e p. rw p (accepted-exactly (a .0));
   with-layer = λ κs a x e p. layer-is (a .0) _ p;
@@ -152,13 +197,23 @@ demand2 = record {
   square-root = square-root;
   cube-root = cube-root;
   axial-share = λ s a. axial-floor a;
+  byte = λ κs a x e p. p .0;
+  le32 = λ κs a x e p. p;
+  layers-at = λ κs a x e p. p;
+  size-at = λ κs a x e p. p .0;
+  section-of = λ κs a x e p. section-is (a .0 .now) p;
+  filed = λ κs a x e p. filed-is (a .0) p;
+  record-of = λ κs a x e p. filed-is (asWritten (a .0)) p;
   book = λ κs a x e p. book-is (a .0 .now) p;
   record-place = λ κs a x e p. place-is (a .0 .now) (a .1 .0) p;
   record-part = λ κs a x e p. rw p (part-is (a .0 .now) (a .1 .0));
-  section-of = λ κs a x e p. section-is (a .0 .now) p;
+  write-book = λ κs a x e p. write-is (a .0 .now) (a .1 .0 .now) (p .0) (p .1);
+  add-layer = λ κs a x e p. add-is (a .0 .now) (a .1 .1 .1 .0 .now) _ (p .0) (p .1);
   class = λ κs a x e p. class-is (a .0) (a .1 .0) p;
   fw-book = λ κs a x e p. book-is (a .0 .now) p;
   fw-record = λ κs a x e p. place-is (a .0 .now) (a .1 .0) p;
+  fw-write-book = λ κs a x e p. write-is (a .0 .now) (a .1 .0 .now) (p .0) (p .1);
+  fw-add-layer = λ κs a x e p. add-is (a .0 .now) (a .1 .1 .1 .0 .now) _ (p .0) (p .1);
   fw-class = λ κs a x e p. class-is (a .0) (a .1 .0) p;
   fw-draw = λ κs a x e p h. point-is (sectionIn (a .0 .now)) (a .1 .0) (grants points (recordRefusal (a .0 .now)) _ p h .1) h;
   fw-imbalance = λ κs a x e p h. amount-is (sectionIn (a .0 .now)) (a .1 .0) _ (grants amounts (recordRefusal (a .0 .now)) _ p h .1) h;

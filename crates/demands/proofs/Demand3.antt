@@ -24,9 +24,9 @@ use Rattle.depths.specs.Row.{Shown}
 use Rattle.depths.specs.Answers.{listAnswer, rowAfter}
 use Rattle.depths.proofs.Theorems.{listed-exactly, pair-listed, zero-listed, last-zero-listed}
 use Rattle.depths.proofs.Shown.{counted, fourteen, fifteen, words-stay, same-length, shown-exactly, shown-rising}
-use Rattle.book.specs.Record.{recordRefusal, sectionIn}
-use Rattle.book.specs.Good.{StandsAlone}
-use Rattle.book.proofs.Good.{record-stands}
+use Rattle.record.specs.Record.{recordRefusal, sectionIn}
+use Rattle.record.specs.Alone.{StandsAlone}
+use Rattle.record.proofs.Alone.{record-stands}
 use Rattle.panel.specs.Face.{imbalanceOf, momentOf, listOf, rowOf}
 use Rattle.demands.specs.Demand3.{Exact, ImbalanceNear, MomentNear, ClearlyAbove, ClearlyBelow, ClearlyChanges, RowShows, Lists, Demand3}
 use Rattle.demands.proofs.Shapes.{amounts, grants}

@@ -4,6 +4,7 @@ use mathlib.Core.Path.{_≡_, refl}
 use mathlib.Core.Bool.{true}
 use mathlib.Core.List.{List, [], _++_, append-nil}
 use lib.IntN.{pos}
+use lib.ListN.{replicate}
 use borrow.Author.Tests.{ne-eqb}
 use Rattle.arith.specs.Answers.{unlessRefused}
 use Rattle.arith.proofs.Answers.{of-answer, granted}
@@ -22,10 +23,14 @@ use Rattle.depths.specs.declared.Listing.{Listing}
 use Rattle.depths.specs.Answers.{unlisted}
 use Rattle.book.specs.declared.BookAnswer.{BookAnswer}
 use Rattle.book.specs.declared.RecordAnswer.{RecordAnswer}
-use Rattle.book.specs.declared.SectionAnswer.{SectionAnswer}
-use Rattle.book.specs.Record.{noSection, recordRefusal}
-use Rattle.book.specs.Record as Record
+use Rattle.record.specs.declared.SectionAnswer.{SectionAnswer}
+use Rattle.record.specs.Record.{noSection, recordRefusal}
+use Rattle.record.specs.Record as Record
 use Rattle.book.specs.Book.{noBook, noRecord}
+use Rattle.record.specs.declared.RecordBytes.{RecordBytes}
+use Rattle.record.specs.Filed.{unfiled}
+use Rattle.writer.specs.declared.Written.{Written}
+use Rattle.writer.specs.Written.{unwritten}
 use Rattle.class.specs.declared.ClassAnswer.{ClassAnswer}
 use Rattle.class.specs.Class as Class
 use Rattle.demands.specs.Table.{Line, First, loneLines}
@@ -76,18 +81,30 @@ places = record { number = λ x. x .refusal; zeros = λ x. (x .at ≡ 0) × (x .
 abbrev pub records : Shape SectionAnswer
 records = record { number = λ x. x .refusal; zeros = λ x. x .section ≡ noSection; refused = Record.refused; bears = λ k. refl; none = λ k. refl }
 
+abbrev pub filings : Shape RecordBytes
+filings = record {
+  number = λ x. x .refusal;
+  zeros = λ x. (x .len ≡ 0) × (x .bytes ≡ replicate 56 0);
+  refused = unfiled;
+  bears = λ k. refl;
+  none = λ k. (refl, refl);
+}
+
+abbrev pub writings : Shape Written
+writings = record { number = λ x. x .refusal; zeros = λ x. x .len ≡ 0; refused = unwritten; bears = λ k. refl; none = λ k. refl }
+
 abbrev pub classes : Shape ClassAnswer
 classes = record { number = λ x. x .refusal; zeros = λ x. (x .step ≡ 0) × (x .letter ≡ 0); refused = Class.refused; bears = λ k. refl; none = λ k. (refl, refl) }
 
 module _ {X : Type 0} (k : Shape X) where
   -- ---- refused by lines, else what may be refused by lines after them
   then :
-      (ls ms : List Line) (n : ℕ) (y : X) → numbered 18 ls ≡ true → First ls n → Refuses ms (k .number y) (k .zeros y)
+      (ls ms : List Line) (n : ℕ) (y : X) → numbered 19 ls ≡ true → First ls n → Refuses ms (k .number y) (k .zeros y)
       → {x : X} → x ≡ unlessRefused n y (k .refused) → Refuses (ls ++ ms) (k .number x) (k .zeros x)
   then ls ms n y t f inner is = rw is (of-answer (λ v. Refuses (ls ++ ms) (k .number v) (k .zeros v)) n y (k .refused) passed stopped)
     where
       first : First (ls ++ ms) (firstOf n (k .number y))
-      first = then-first 18 ls ms n (k .number y) t f (inner .number (k .number y) .0 refl)
+      first = then-first 19 ls ms n (k .number y) t f (inner .number (k .number y) .0 refl)
 
       passed : n ≡ 0 → Refuses (ls ++ ms) (k .number y) (k .zeros y)
       passed e = record { number = exactly (ls ++ ms) (k .number y) (rw e at first); beside = inner .beside }
@@ -97,7 +114,7 @@ module _ {X : Type 0} (k : Shape X) where
 
   -- by no other
   pub alone :
-      (ls : List Line) (n : ℕ) (y : X) → numbered 18 ls ≡ true → First ls n → k .number y ≡ 0
+      (ls : List Line) (n : ℕ) (y : X) → numbered 19 ls ≡ true → First ls n → k .number y ≡ 0
       → {x : X} → x ≡ unlessRefused n y (k .refused) → Refuses ls (k .number x) (k .zeros x)
   unfolding First
   alone ls n y t f e is = rw (append-nil ls) at (then ls [] n y t f (record { number = exactly [] (k .number y) e; beside = λ h. absurd (h e) }) is)

@@ -1,5 +1,5 @@
 -- The refusals of the crates below by the table: each is the number of the first line that holds. Assumes nothing.
-use Prim.Native.Nat.{ℕ, _*_, _≤_}
+use Prim.Native.Nat.{ℕ, zero, suc, _+_, _*_, _≤_}
 use mathlib.Core.Path.{_≡_, refl, sym, _∙_}
 use mathlib.Core.Bool.{Bool, true, false, _&&_, false≢true}
 use mathlib.Core.Logic.{inl, inr}
@@ -8,7 +8,7 @@ use native.Mathlib.Omega.{arith}
 use lib.IntN.{ℤ}
 use lib.ListN.{length}
 use borrow.Author.Tests.{ne-eqb}
-use Rattle.arith.proofs.Tests.{both, Decides, is-less, is-most}
+use Rattle.arith.proofs.Tests.{both, Decides, is-less, is-most, is-both}
 use Rattle.section.specs.declared.Layer.{Layer}
 use Rattle.section.specs.declared.Section.{Section}
 use Rattle.section.specs.Refusal.{line, firstOf, within, sectionRefusal}
@@ -23,12 +23,16 @@ use Rattle.depths.specs.Depths.{listed, SomeDepth}
 use Rattle.depths.specs.Answers.{depthsRefusal, listRefusal}
 use Rattle.depths.proofs.Theorems.{some-depth}
 use Rattle.shear.specs.Shear.{shearRefusal}
-use Rattle.book.specs.Record.{recordRefusal}
+use Rattle.record.specs.Record.{recordSize, recordRefusal, sectionIn}
+use Rattle.record.specs.Filed.{filedRefusal}
 use Rattle.book.specs.Book.{countOf, bookRefusal, askedRefusal}
-use Rattle.book.proofs.Good.{stands-alone, length-stands, letters-stand, index-stands, records-exactly}
+use Rattle.record.proofs.Alone.{stands-alone}
+use Rattle.book.proofs.Good.{length-stands, letters-stand, index-stands, records-exactly}
+use Rattle.writer.specs.Records.{partFrom, placeAt, refusalAt, countIn, firstBelow, recordsRefusal}
+use Rattle.writer.specs.Written.{bookIn, writeRefusal, addRefusal}
 use Rattle.class.specs.Class.{classRefusal}
 use Rattle.class.proofs.Refused.{class-line, class-in}
-use Rattle.demands.specs.Table.{Line, _unless_, First, bookLines, askedLines, loneLines, sectionLines, layerLines, depthsLines, shearLines, classLines, strainLines, gridLines}
+use Rattle.demands.specs.Table.{Line, _unless_, First, bookLines, askedLines, loneLines, sectionLines, layerLines, filedLines, recordLines, recordsLines, writeLines, addLines, depthsLines, shearLines, classLines, strainLines, gridLines}
 use Rattle.demands.specs.Demand1.{ByTable}
 
 -- ---- lines in order
@@ -103,6 +107,44 @@ section-first s =
 
 pub layer-first : (s : Section) (l : Layer) → First (layerLines s l) (layerRefusal s l)
 layer-first s l = rw (layer-line s l) (line-first 12 _ _ (takes-layer s l) no-line)
+
+pub filed-first : (s : Section) → First (filedLines s) (filedRefusal s)
+filed-first s = line-first 12 _ _ (is-most (s .count) 8) no-line
+
+pub add-first : (s : Section) (l : Layer) (room : ℕ) → First (addLines s l room) (addRefusal s l room)
+unfolding addRefusal
+add-first s l room = then-first 12 (layerLines s l) _ (layerRefusal s l) _ refl (layer-first s l) (line-first 19 _ _ (is-most (recordSize (s .count + 1)) room) no-line)
+
+-- ---- a string of records
+numbered-both : (most : ℕ) (ls ms : List Line) → numbered most ls ≡ true → numbered most ms ≡ true → numbered most (ls ++ ms) ≡ true
+numbered-both most [] ms a b = b
+numbered-both most (l ∷ ls) ms a b =
+    let k = both (within 1 most (l .number)) (numbered most ls) a in
+    rw (k .0, numbered-both most ls ms (k .1) b)
+
+pub record-first : (r : List ℕ) → First (loneLines r ++ sectionLines (sectionIn r)) (firstOf (recordRefusal r) (sectionRefusal (sectionIn r)))
+record-first r = then-first 6 (loneLines r) _ (recordRefusal r) _ refl (lone-first r) (section-first (sectionIn r))
+
+module _ (r : List ℕ) (most : ℕ) (h : numbered most (recordLines r 0) ≡ true) where
+  -- the numbers of a record's lines don't hang on the record
+  pub records-numbered : (n : ℕ) → numbered most (recordsLines r n) ≡ true
+  unfolding recordsLines
+  records-numbered zero = refl
+  records-numbered (suc n) = numbered-both most (recordsLines r n) (recordLines r n) (records-numbered n) h
+
+records-first : (r : List ℕ) (n : ℕ) → First (recordsLines r n) (firstBelow n (refusalAt r))
+unfolding recordsLines firstBelow
+records-first r zero = no-line
+records-first r (suc n) = then-first 13 (recordsLines r n) (recordLines r n) (firstBelow n (refusalAt r)) _ (records-numbered r 13 refl n) (records-first r n) (record-first (partFrom r (placeAt r n)))
+
+pub write-first : (r : List ℕ) (room : ℕ) → First (writeLines r room) (writeRefusal r room)
+unfolding writeRefusal
+write-first r room =
+    then-first 13 (recordsLines r (countIn r)) _ (recordsRefusal r) _ (records-numbered r 13 refl (countIn r)) (records-first r (countIn r))
+    (line-first 19 _ _ (is-both (is-most (length (bookIn r)) room) (is-most (length (bookIn r)) 65536)) no-line)
+
+pub write-numbered : (r : List ℕ) (room : ℕ) → numbered 19 (writeLines r room) ≡ true
+write-numbered r room = numbered-both 19 (recordsLines r (countIn r)) _ (records-numbered r 19 refl (countIn r)) refl
 
 module _ (s : Section) (ms : List Line) (m : ℕ) where
   after-section : First ms m → First (sectionLines s ++ ms) (firstOf (sectionRefusal s) m)

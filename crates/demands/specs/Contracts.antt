@@ -43,20 +43,40 @@ use Rattle.depths.proofs.depths.Kinds as Depths
 use Rattle.depths.proofs.depths.Reads as DepthsReads
 use Rattle.shear.proofs.shear.Kinds as Shear
 use Rattle.shear.proofs.shear.Reads as ShearReads
+use Rattle.record.proofs.byte.Kinds as Byte
+use Rattle.record.proofs.byte.Reads as ByteReads
+use Rattle.record.proofs.le32.Kinds as Le32
+use Rattle.record.proofs.le32.Reads as Le32Reads
+use Rattle.record.proofs.layers_at.Kinds as LayersAt
+use Rattle.record.proofs.layers_at.Reads as LayersAtReads
+use Rattle.record.proofs.size_at.Kinds as SizeAt
+use Rattle.record.proofs.size_at.Reads as SizeAtReads
+use Rattle.record.proofs.section_of.Kinds as SectionOf
+use Rattle.record.proofs.section_of.Reads as SectionOfReads
+use Rattle.record.proofs.filed.Kinds as Filed
+use Rattle.record.proofs.filed.Reads as FiledReads
+use Rattle.record.proofs.record_of.Kinds as RecordOf
+use Rattle.record.proofs.record_of.Reads as RecordOfReads
 use Rattle.book.proofs.book.Kinds as Book
 use Rattle.book.proofs.book.Reads as BookReads
 use Rattle.book.proofs.record_place.Kinds as RecordPlace
 use Rattle.book.proofs.record_place.Reads as RecordPlaceReads
 use Rattle.book.proofs.record.Kinds as RecordPart
 use Rattle.book.proofs.record.Reads as RecordPartReads
-use Rattle.book.proofs.section_of.Kinds as SectionOf
-use Rattle.book.proofs.section_of.Reads as SectionOfReads
+use Rattle.writer.proofs.write_book.Kinds as WriteBook
+use Rattle.writer.proofs.write_book.Reads as WriteBookReads
+use Rattle.writer.proofs.add_layer.Kinds as AddLayer
+use Rattle.writer.proofs.add_layer.Reads as AddLayerReads
 use Rattle.class.proofs.class.Kinds as Class
 use Rattle.class.proofs.class.Reads as ClassReads
 use Rattle.panel.proofs.fw_book.Kinds as FwBook
 use Rattle.panel.proofs.fw_book.Reads as FwBookReads
 use Rattle.panel.proofs.fw_record.Kinds as FwRecord
 use Rattle.panel.proofs.fw_record.Reads as FwRecordReads
+use Rattle.panel.proofs.fw_write_book.Kinds as FwWriteBook
+use Rattle.panel.proofs.fw_write_book.Reads as FwWriteBookReads
+use Rattle.panel.proofs.fw_add_layer.Kinds as FwAddLayer
+use Rattle.panel.proofs.fw_add_layer.Reads as FwAddLayerReads
 use Rattle.panel.proofs.fw_class.Kinds as FwClass
 use Rattle.panel.proofs.fw_class.Reads as FwClassReads
 use Rattle.panel.proofs.fw_draw.Kinds as FwDraw
@@ -137,6 +157,27 @@ depths = record { takes = Depths.ps; gives = Depths.r; asked = DepthsReads.Asked
 abbrev pub shear : Contract 0
 shear = record { takes = Shear.ps; gives = Shear.r; asked = ShearReads.Asked; told = ShearReads.Learnt }
 
+abbrev pub byte : Contract 1
+byte = record { takes = Byte.ps; gives = Byte.r; asked = ByteReads.Asked; told = ByteReads.Learnt }
+
+abbrev pub le32 : Contract 1
+le32 = record { takes = Le32.ps; gives = Le32.r; asked = Le32Reads.Asked; told = Le32Reads.Learnt }
+
+abbrev pub layers-at : Contract 1
+layers-at = record { takes = LayersAt.ps; gives = LayersAt.r; asked = LayersAtReads.Asked; told = LayersAtReads.Learnt }
+
+abbrev pub size-at : Contract 1
+size-at = record { takes = SizeAt.ps; gives = SizeAt.r; asked = SizeAtReads.Asked; told = SizeAtReads.Learnt }
+
+abbrev pub section-of : Contract 1
+section-of = record { takes = SectionOf.ps; gives = SectionOf.r; asked = SectionOfReads.Asked; told = SectionOfReads.Learnt }
+
+abbrev pub filed : Contract 0
+filed = record { takes = Filed.ps; gives = Filed.r; asked = FiledReads.Asked; told = FiledReads.Learnt }
+
+abbrev pub record-of : Contract 0
+record-of = record { takes = RecordOf.ps; gives = RecordOf.r; asked = RecordOfReads.Asked; told = RecordOfReads.Learnt }
+
 abbrev pub book : Contract 1
 book = record { takes = Book.ps; gives = Book.r; asked = BookReads.Asked; told = BookReads.Learnt }
 
@@ -146,8 +187,11 @@ record-place = record { takes = RecordPlace.ps; gives = RecordPlace.r; asked = R
 abbrev pub record-part : Contract 1
 record-part = record { takes = RecordPart.ps; gives = RecordPart.r; asked = RecordPartReads.Asked; told = RecordPartReads.Learnt }
 
-abbrev pub section-of : Contract 1
-section-of = record { takes = SectionOf.ps; gives = SectionOf.r; asked = SectionOfReads.Asked; told = SectionOfReads.Learnt }
+abbrev pub write-book : Contract 2
+write-book = record { takes = WriteBook.ps; gives = WriteBook.r; asked = WriteBookReads.Asked; told = WriteBookReads.Learnt }
+
+abbrev pub add-layer : Contract 2
+add-layer = record { takes = AddLayer.ps; gives = AddLayer.r; asked = AddLayerReads.Asked; told = AddLayerReads.Learnt }
 
 abbrev pub class : Contract 0
 class = record { takes = Class.ps; gives = Class.r; asked = ClassReads.Asked; told = ClassReads.Learnt }
@@ -157,6 +201,12 @@ fw-book = record { takes = FwBook.ps; gives = FwBook.r; asked = FwBookReads.Aske
 
 abbrev pub fw-record : Contract 1
 fw-record = record { takes = FwRecord.ps; gives = FwRecord.r; asked = FwRecordReads.Asked; told = FwRecordReads.Learnt }
+
+abbrev pub fw-write-book : Contract 2
+fw-write-book = record { takes = FwWriteBook.ps; gives = FwWriteBook.r; asked = FwWriteBookReads.Asked; told = FwWriteBookReads.Learnt }
+
+abbrev pub fw-add-layer : Contract 2
+fw-add-layer = record { takes = FwAddLayer.ps; gives = FwAddLayer.r; asked = FwAddLayerReads.Asked; told = FwAddLayerReads.Learnt }
 
 abbrev pub fw-class : Contract 0
 fw-class = record { takes = FwClass.ps; gives = FwClass.r; asked = FwClassReads.Asked; told = FwClassReads.Learnt }

@@ -42,13 +42,27 @@ pub record Decided : Type 0 where
   pub depths : One Contracts.depths
   pub depths-row : OneIn Contracts.depths (λ κs x e. e .1 .0 .now)
   pub shear : One Contracts.shear
+  pub byte : One Contracts.byte
+  pub le32 : One Contracts.le32
+  pub layers-at : One Contracts.layers-at
+  pub size-at : One Contracts.size-at
+  pub section-of : One Contracts.section-of
+  pub filed : One Contracts.filed
+  pub record-of : One Contracts.record-of
   pub book : One Contracts.book
   pub record-place : One Contracts.record-place
   pub record-part : OneIn Contracts.record-part (λ κs x e. x .now)
-  pub section-of : One Contracts.section-of
+  pub write-book : One Contracts.write-book
+  pub write-book-bytes : OneIn Contracts.write-book (λ κs x e. e .1 .0 .now)
+  pub add-layer : One Contracts.add-layer
+  pub add-layer-bytes : OneIn Contracts.add-layer (λ κs x e. e .1 .1 .1 .0 .now)
   pub class : One Contracts.class
   pub fw-book : One Contracts.fw-book
   pub fw-record : One Contracts.fw-record
+  pub fw-write-book : One Contracts.fw-write-book
+  pub fw-write-book-bytes : OneIn Contracts.fw-write-book (λ κs x e. e .1 .0 .now)
+  pub fw-add-layer : One Contracts.fw-add-layer
+  pub fw-add-layer-bytes : OneIn Contracts.fw-add-layer (λ κs x e. e .1 .1 .1 .0 .now)
   pub fw-class : One Contracts.fw-class
   pub fw-draw : One Contracts.fw-draw
   pub fw-imbalance : One Contracts.fw-imbalance

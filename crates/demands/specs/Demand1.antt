@@ -8,16 +8,17 @@ use mathlib.Core.Path.{_≡_}
 use mathlib.Core.Logic.{_↔_}
 use mathlib.Core.List.{List, [], _++_}
 use lib.IntN.{ℤ, pos}
-use lib.ListN.{length}
+use lib.ListN.{length, replicate}
 use Rattle.section.specs.declared.Section.{Section}
 use Rattle.law.specs.Law.{noLaw}
 use Rattle.drawn.specs.Drawn.{noPoint}
 use Rattle.depths.specs.declared.Listing.{Listing}
 use Rattle.depths.specs.Depths.{listed}
-use Rattle.book.specs.Record.{noSection, sectionIn}
+use Rattle.record.specs.Record.{noSection, sectionIn}
+use Rattle.writer.specs.declared.Written.{Written}
 use Rattle.demands.specs.Free.{Free}
 use Rattle.demands.specs.Every as Every
-use Rattle.demands.specs.Table.{Line, First, bookLines, askedLines, loneLines, sectionLines, layerLines, depthsLines, shearLines, classLines, strainLines, gridLines}
+use Rattle.demands.specs.Table.{Line, First, bookLines, askedLines, loneLines, sectionLines, layerLines, filedLines, writeLines, addLines, depthsLines, shearLines, classLines, strainLines, gridLines}
 
 -- each number is returned exactly where its line is the first that holds of those that concern the call, and 0 exactly where none does
 abbrev pub ByTable : List Line → ℕ → Type 0
@@ -33,6 +34,11 @@ pub record RefusesList (lines : List Line) (s : Section) (before : List ℤ) (x 
   pub refuses : Refuses lines (x .refusal) ((x .refusal ≡ 15 → ⊥) → x .count ≡ 0)
   pub needed : x .refusal ≡ 15 → x .count ≡ length (listed s)
   pub row : (x .refusal ≡ 0 → ⊥) → after ≡ before
+
+-- beside that of a book or a record that is written no length; and the lent bytes are as they were
+pub record RefusesBytes (lines : List Line) (before : List ℕ) (x : Written) (after : List ℕ) : Type 0 where
+  pub refuses : Refuses lines (x .refusal) (x .len ≡ 0)
+  pub bytes : (x .refusal ≡ 0 → ⊥) → after ≡ before
 
 -- of every call of each public function
 pub record Demand1 : Type 0 where
@@ -53,6 +59,12 @@ pub record Demand1 : Type 0 where
   pub record-part : Every.record-part (λ bytes i part. (part ≡ []) ↔ (First (askedLines bytes i) 0 → ⊥))
   -- a lone record: 6
   pub section-of : Every.section-of (λ part x. Refuses (loneLines part) (x .refusal) (x .section ≡ noSection))
+  -- a section's record: 12 where it counts more than 8 layers
+  pub filed : Every.filed (λ s x. Refuses (filedLines s) (x .refusal) ((x .len ≡ 0) × (x .bytes ≡ replicate 56 0)))
+  pub record-of : Every.record-of (λ s x. Refuses (filedLines s) (x .refusal) ((x .len ≡ 0) × (x .bytes ≡ replicate 56 0)))
+  -- a book that is written: 6 to 13 of the first record that is refused, then 19; a layer added to a record: 6, 12, then 19
+  pub write-book : Every.write-book (λ records before x after. RefusesBytes (writeLines records (length before)) before x after)
+  pub add-layer : Every.add-layer (λ part depth area before x after. RefusesBytes (loneLines part ++ addLines (sectionIn part) (record { depth = depth; area = area }) (length before)) before x after)
   -- a class: 17
   pub class : Every.class (λ fr1 fr3 x. Refuses (classLines fr1 fr3) (x .refusal) ((x .step ≡ 0) × (x .letter ≡ 0)))
   -- a refusal that is handed on: its number, and zeros
@@ -62,6 +74,8 @@ pub record Demand1 : Type 0 where
   -- the C face: the same; of a record that is handed over as bytes 6 first
   pub fw-book : Every.fw-book (λ bytes x. Refuses (bookLines bytes) (x .refusal) (x .count ≡ 0))
   pub fw-record : Every.fw-record (λ bytes i x. Refuses (askedLines bytes i) (x .refusal) ((x .at ≡ 0) × (x .len ≡ 0)))
+  pub fw-write-book : Every.fw-write-book (λ records before x after. RefusesBytes (writeLines records (length before)) before x after)
+  pub fw-add-layer : Every.fw-add-layer (λ part depth area before x after. RefusesBytes (loneLines part ++ addLines (sectionIn part) (record { depth = depth; area = area }) (length before)) before x after)
   pub fw-class : Every.fw-class (λ fr1 fr3 x. Refuses (classLines fr1 fr3) (x .refusal) ((x .step ≡ 0) × (x .letter ≡ 0)))
   pub fw-draw : Every.fw-draw (λ part e x. Refuses (loneLines part ++ strainLines (sectionIn part) e) (x .refusal) (x .point ≡ noPoint))
   pub fw-imbalance : Every.fw-imbalance (λ part d x. Refuses (loneLines part ++ gridLines (sectionIn part) d) (x .refusal) (x .amount ≡ pos 0))

@@ -1,15 +1,16 @@
 -- Demand 2: a section with a layer added, class, stress, imbalance, moment and shear equal the rules to the last rounding; a record read from a book
 -- shows exactly the bytes filed.
-use Prim.Native.Nat.{ℕ, _+_, _*_, _-_, _≤_, _<_}
+use Prim.Native.Nat.{ℕ, _+_, _*_, _-_, _^_, _≤_, _<_}
 use mathlib.Core.Path.{_≡_}
 use mathlib.Core.Bool.{true}
 use mathlib.Core.Logic.{_↔_}
 use mathlib.Core.List.{List}
 use lib.Dec.{leb}
 use lib.IntN.{ℤ, pos, _*ℤ_}
-use lib.ListN.{length}
-use lib.Signed.{_≤ℤ_}
+use lib.ListN.{length, getD, take}
+use lib.Signed.{mag, _≤ℤ_}
 use Rattle.arith.specs.Floor.{RoundsDown}
+use Rattle.arith.specs.Joined.{over}
 use Rattle.arith.specs.Sums.{sumZ, after}
 use Rattle.arith.specs.Largest.{Largest, largest}
 use Rattle.section.specs.declared.Layer.{Layer}
@@ -32,9 +33,12 @@ use Rattle.depths.specs.declared.Listing.{Listing}
 use Rattle.depths.specs.Depths.{listed, written}
 use Rattle.shear.specs.Shear.{squared, cubed, axialShare, resistance}
 use Rattle.book.specs.declared.RecordAnswer.{RecordAnswer}
-use Rattle.book.specs.Record.{sizeAt, sectionIn}
+use Rattle.record.specs.Record.{Bytes, le32At, recordSize, layersAt, sizeAt, sectionIn}
+use Rattle.record.specs.Filed.{filed, asWritten, asRead}
 use Rattle.book.specs.Book.{countOf, startOf, partOf}
 use Rattle.book.specs.Good.{Shows}
+use Rattle.writer.specs.declared.Written.{Written}
+use Rattle.writer.specs.Written.{bookIn}
 use Rattle.class.specs.declared.ClassAnswer.{ClassAnswer}
 use Rattle.class.specs.Class.{stepOf, letterOf}
 use Rattle.demands.specs.Every as Every
@@ -62,6 +66,19 @@ ListIs s before x after = (x .count ≡ length (listed s)) × (after ≡ written
 -- the record's place, inside the book; what lies there shows the record
 abbrev pub PlaceIs : List ℕ → ℕ → RecordAnswer → Type 0
 PlaceIs bytes i x = (x .at ≡ startOf bytes i) × (x .len ≡ sizeAt bytes (startOf bytes i)) × (x .at + x .len ≤ length bytes) × Shows bytes i (partOf bytes (x .at) (x .len))
+
+-- what is in the lent bytes from their front on, and is so long: a record that is read as this section, with nothing refused
+abbrev pub ReadsAs : List ℕ → ℕ → Section → Type 0
+ReadsAs bytes len s = Every.section-of (λ r y. r ≡ take len bytes → (y .refusal ≡ 0) × (y .section ≡ s))
+
+-- a section's load is held by 32 bits; in a definition it has no width
+abbrev pub Held : Section → Type 0
+Held s = mag (s .load) < 2 ^ 31
+
+-- the record with the layer, and the lent bytes' own behind it; it is read as the section with the layer
+abbrev pub LayerPut : List ℕ → Layer → List ℕ → Written → List ℕ → Type 0
+LayerPut part l before x after =
+    (x .len ≡ recordSize (sectionIn part .count + 1)) × (after ≡ over (filed (withLayer (sectionIn part) l)) before) × (Bytes part → ReadsAs after (x .len) (withLayer (sectionIn part) l))
 
 -- a sum lies from one bound to the other
 abbrev pub Between : ℤ → Range → Type 0
@@ -97,16 +114,29 @@ pub record Demand2 : Type 0 where
   pub square-root : (d bound : ℕ) → 0 < d → Largest (squared d) bound (largest (squared d) bound)
   pub cube-root : (bd bound : ℕ) → 0 < bd → Largest (cubed bd) bound (largest (cubed bd) bound)
   pub axial-share : (s : Section) → Accepted s → RoundsDown (pos 15 *ℤ loadOf s) (100 * concreteArea s) (axialShare s)
-  -- a book, the part of a record, and its section, in which places past the layer count are zero
+  -- numbers in bytes, 0 past the end, and the section of a record, in which places past the layer count are zero
+  pub byte : Every.byte (λ bytes at x. x ≡ getD bytes at 0)
+  pub le32 : Every.le32 (λ bytes at x. x ≡ le32At bytes at)
+  pub layers-at : Every.layers-at (λ bytes at x. x ≡ layersAt bytes at)
+  pub size-at : Every.size-at (λ bytes at x. x ≡ sizeAt bytes at)
+  pub section-of : Every.section-of (λ part x. x .refusal ≡ 0 → (x .section ≡ sectionIn part) × ZeroPast (x .section))
+  -- and back: the record is read as the section, with zeros past the layer count; as it is written, with spacing 0 where there are no stirrups
+  pub filed : Every.filed (λ s x. x .refusal ≡ 0 → (x .len ≡ recordSize (s .count)) × (Held s → ReadsAs (x .bytes) (x .len) (asRead s)))
+  pub record-of : Every.record-of (λ s x. x .refusal ≡ 0 → (x .len ≡ recordSize (s .count)) × (Held s → ReadsAs (x .bytes) (x .len) (asRead (asWritten s))))
+  -- a book and the part of a record
   pub book : Every.book (λ bytes x. x .refusal ≡ 0 → x .count ≡ countOf bytes)
   pub record-place : Every.record-place (λ bytes i x. x .refusal ≡ 0 → PlaceIs bytes i x)
   pub record-part : Every.record-part (λ bytes i part. First (askedLines bytes i) 0 → Shows bytes i part)
-  pub section-of : Every.section-of (λ part x. x .refusal ≡ 0 → (x .section ≡ sectionIn part) × ZeroPast (x .section))
+  -- a book that is written, and a record with a layer added; what is past it stays
+  pub write-book : Every.write-book (λ records before x after. x .refusal ≡ 0 → (x .len ≡ length (bookIn records)) × (after ≡ over (bookIn records) before))
+  pub add-layer : Every.add-layer (λ part depth area before x after. x .refusal ≡ 0 → LayerPut part (record { depth = depth; area = area }) before x after)
   -- a class
   pub class : Every.class (λ fr1 fr3 x. x .refusal ≡ 0 → ClassIs fr1 fr3 x)
   -- the C face
   pub fw-book : Every.fw-book (λ bytes x. x .refusal ≡ 0 → x .count ≡ countOf bytes)
   pub fw-record : Every.fw-record (λ bytes i x. x .refusal ≡ 0 → PlaceIs bytes i x)
+  pub fw-write-book : Every.fw-write-book (λ records before x after. x .refusal ≡ 0 → (x .len ≡ length (bookIn records)) × (after ≡ over (bookIn records) before))
+  pub fw-add-layer : Every.fw-add-layer (λ part depth area before x after. x .refusal ≡ 0 → LayerPut part (record { depth = depth; area = area }) before x after)
   pub fw-class : Every.fw-class (λ fr1 fr3 x. x .refusal ≡ 0 → ClassIs fr1 fr3 x)
   pub fw-draw : Every.fw-draw (λ part e x. x .refusal ≡ 0 → PointIs (sectionIn part) e x)
   pub fw-imbalance : Every.fw-imbalance (λ part d x. x .refusal ≡ 0 → x .amount ≡ imbalance (sectionIn part) d)

@@ -18,8 +18,8 @@ use Rattle.forces.specs.Forces.{stripStress, barStress, imbalance, moment}
 use Rattle.depths.specs.declared.Listing.{Listing}
 use Rattle.depths.specs.Depths.{Entry, Balances, NoDepth}
 use Rattle.depths.specs.Row.{wordAt, Shown, howMany}
-use Rattle.book.specs.Record.{sectionIn}
-use Rattle.book.specs.Good.{StandsAlone}
+use Rattle.record.specs.Record.{sectionIn}
+use Rattle.record.specs.Alone.{StandsAlone}
 use Rattle.demands.specs.Every as Every
 
 -- ---- the exact sums of a depth: the same whole numbers of the law, but unrounded stresses, all over one denominator

@@ -18,9 +18,11 @@ use Rattle.strips.specs.declared.Axis.{Axis}
 use Rattle.strips.specs.declared.Range.{Range}
 use Rattle.section.specs.declared.Amount.{Amount}
 use Rattle.depths.specs.declared.Listing.{Listing}
+use Rattle.record.specs.declared.SectionAnswer.{SectionAnswer}
+use Rattle.record.specs.declared.RecordBytes.{RecordBytes}
 use Rattle.book.specs.declared.BookAnswer.{BookAnswer}
 use Rattle.book.specs.declared.RecordAnswer.{RecordAnswer}
-use Rattle.book.specs.declared.SectionAnswer.{SectionAnswer}
+use Rattle.writer.specs.declared.Written.{Written}
 use Rattle.class.specs.declared.ClassAnswer.{ClassAnswer}
 use Rattle.demands.specs.Contracts.{Contract}
 use Rattle.demands.specs.Contracts as Contracts
@@ -98,7 +100,29 @@ depths says = Tells Contracts.depths (λ κs a x e. says (a .0) (a .1 .0 .now) x
 abbrev pub shear : (Section → Amount → Type 0) → Type 0
 shear says = Tells Contracts.shear (λ κs a x e. says (a .0) x)
 
--- ---- book: a list of numbers below 256 is what was lent, and of `record` what is handed back
+-- ---- record: a list of numbers below 256 is what was lent
+abbrev pub byte : (List ℕ → ℕ → ℕ → Type 0) → Type 0
+byte says = Tells Contracts.byte (λ κs a x e. says (a .0 .now) (a .1 .0) x)
+
+abbrev pub le32 : (List ℕ → ℕ → ℕ → Type 0) → Type 0
+le32 says = Tells Contracts.le32 (λ κs a x e. says (a .0 .now) (a .1 .0) x)
+
+abbrev pub layers-at : (List ℕ → ℕ → ℕ → Type 0) → Type 0
+layers-at says = Tells Contracts.layers-at (λ κs a x e. says (a .0 .now) (a .1 .0) x)
+
+abbrev pub size-at : (List ℕ → ℕ → ℕ → Type 0) → Type 0
+size-at says = Tells Contracts.size-at (λ κs a x e. says (a .0 .now) (a .1 .0) x)
+
+abbrev pub section-of : (List ℕ → SectionAnswer → Type 0) → Type 0
+section-of says = Tells Contracts.section-of (λ κs a x e. says (a .0 .now) x)
+
+abbrev pub filed : (Section → RecordBytes → Type 0) → Type 0
+filed says = Tells Contracts.filed (λ κs a x e. says (a .0) x)
+
+abbrev pub record-of : (Section → RecordBytes → Type 0) → Type 0
+record-of says = Tells Contracts.record-of (λ κs a x e. says (a .0) x)
+
+-- ---- book: of `record` a list is also what is handed back
 abbrev pub book : (List ℕ → BookAnswer → Type 0) → Type 0
 book says = Tells Contracts.book (λ κs a x e. says (a .0 .now) x)
 
@@ -108,8 +132,12 @@ record-place says = Tells Contracts.record-place (λ κs a x e. says (a .0 .now)
 abbrev pub record-part : (List ℕ → ℕ → List ℕ → Type 0) → Type 0
 record-part says = Tells Contracts.record-part (λ κs a x e. says (a .0 .now) (a .1 .0) (x .now))
 
-abbrev pub section-of : (List ℕ → SectionAnswer → Type 0) → Type 0
-section-of says = Tells Contracts.section-of (λ κs a x e. says (a .0 .now) x)
+-- ---- writer: the list before the answer is what was lent to be written as it was, the one after it as it is left
+abbrev pub write-book : (List ℕ → List ℕ → Written → List ℕ → Type 0) → Type 0
+write-book says = Tells Contracts.write-book (λ κs a x e. says (a .0 .now) (a .1 .0 .now) x (e .1 .0 .now))
+
+abbrev pub add-layer : (List ℕ → ℕ → ℕ → List ℕ → Written → List ℕ → Type 0) → Type 0
+add-layer says = Tells Contracts.add-layer (λ κs a x e. says (a .0 .now) (a .1 .0) (a .1 .1 .0) (a .1 .1 .1 .0 .now) x (e .1 .1 .1 .0 .now))
 
 -- ---- class
 abbrev pub class : (ℕ → ℕ → ClassAnswer → Type 0) → Type 0
@@ -121,6 +149,12 @@ fw-book says = Tells Contracts.fw-book (λ κs a x e. says (a .0 .now) x)
 
 abbrev pub fw-record : (List ℕ → ℕ → RecordAnswer → Type 0) → Type 0
 fw-record says = Tells Contracts.fw-record (λ κs a x e. says (a .0 .now) (a .1 .0) x)
+
+abbrev pub fw-write-book : (List ℕ → List ℕ → Written → List ℕ → Type 0) → Type 0
+fw-write-book says = Tells Contracts.fw-write-book (λ κs a x e. says (a .0 .now) (a .1 .0 .now) x (e .1 .0 .now))
+
+abbrev pub fw-add-layer : (List ℕ → ℕ → ℕ → List ℕ → Written → List ℕ → Type 0) → Type 0
+fw-add-layer says = Tells Contracts.fw-add-layer (λ κs a x e. says (a .0 .now) (a .1 .0) (a .1 .1 .0) (a .1 .1 .1 .0 .now) x (e .1 .1 .1 .0 .now))
 
 abbrev pub fw-class : (ℕ → ℕ → ClassAnswer → Type 0) → Type 0
 fw-class says = Tells Contracts.fw-class (λ κs a x e. says (a .0) (a .1 .0) x)

@@ -31,13 +31,23 @@ pub record Free : Type 0 where
   pub listing-refused : AsksNothing Contracts.listing-refused
   pub depths : AsksNothing Contracts.depths
   pub shear : AsksNothing Contracts.shear
+  pub byte : AsksNothing Contracts.byte
+  pub le32 : AsksNothing Contracts.le32
+  pub layers-at : AsksNothing Contracts.layers-at
+  pub size-at : AsksNothing Contracts.size-at
+  pub section-of : AsksNothing Contracts.section-of
+  pub filed : AsksNothing Contracts.filed
+  pub record-of : AsksNothing Contracts.record-of
   pub book : AsksNothing Contracts.book
   pub record-place : AsksNothing Contracts.record-place
   pub record-part : AsksNothing Contracts.record-part
-  pub section-of : AsksNothing Contracts.section-of
+  pub write-book : AsksNothing Contracts.write-book
+  pub add-layer : AsksNothing Contracts.add-layer
   pub class : AsksNothing Contracts.class
   pub fw-book : AsksNothing Contracts.fw-book
   pub fw-record : AsksNothing Contracts.fw-record
+  pub fw-write-book : AsksNothing Contracts.fw-write-book
+  pub fw-add-layer : AsksNothing Contracts.fw-add-layer
   pub fw-class : AsksNothing Contracts.fw-class
   pub fw-draw : AsksNothing Contracts.fw-draw
   pub fw-imbalance : AsksNothing Contracts.fw-imbalance

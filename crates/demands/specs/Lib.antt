@@ -8,3 +8,4 @@ pub mod Demand3
 pub mod Figures
 pub mod Decided
 pub mod Widths
+pub mod Request1

@@ -1,5 +1,5 @@
 -- Document 01, 'What is refused, tested in this order': the whole table, a definition a line, and the lines that concern each call.
-use Prim.Native.Nat.{ℕ, _*_, _≤_, _<_}
+use Prim.Native.Nat.{ℕ, zero, suc, _+_, _*_, _≤_, _<_}
 use mathlib.Core.Path.{_≡_}
 use mathlib.Core.Logic.{_⊎_}
 use mathlib.Core.List.{List, [], _∷_, _++_}
@@ -12,7 +12,11 @@ use Rattle.drawn.specs.Drawn.{Drawable}
 use Rattle.section.specs.Has.{lastDepth}
 use Rattle.depths.specs.Depths.{listed, SomeDepth}
 use Rattle.book.specs.Book.{countOf}
-use Rattle.book.specs.Good.{LengthStands, LettersStand, IndexStands, RecordsStand, StandsAlone}
+use Rattle.record.specs.Record.{recordSize}
+use Rattle.record.specs.Alone.{StandsAlone}
+use Rattle.book.specs.Good.{LengthStands, LettersStand, IndexStands, RecordsStand}
+use Rattle.writer.specs.Records.{partFrom, placeAt, sectionAt, countIn}
+use Rattle.writer.specs.Written.{bookIn}
 use Rattle.class.specs.Class.{ClassIn}
 
 -- a line: its number, and what it asks for; it holds where that is not so
@@ -61,12 +65,34 @@ sectionLines s =
 abbrev pub layerLines : Section → Layer → List Line
 layerLines s l = (12 unless TakesLayer s l) ∷ []
 
+-- a section that is filed: of 12 only the layer count
+abbrev pub filedLines : Section → List Line
+filedLines s = (12 unless s .count ≤ 8) ∷ []
+
 -- the list of depths, into a row of so many words
 abbrev pub depthsLines : Section → ℕ → List Line
 depthsLines s room = sectionLines s ++ (14 unless SomeDepth s) ∷ (15 unless 3 * length (listed s) ≤ room) ∷ []
 
 abbrev pub shearLines : Section → List Line
 shearLines s = sectionLines s ++ (16 unless 0 < s .count) ∷ []
+
+-- ---- of a string of records, each in turn: 6, then 7 to 13
+abbrev pub recordLines : List ℕ → ℕ → List Line
+recordLines r i = loneLines (partFrom r (placeAt r i)) ++ sectionLines (sectionAt r i)
+
+unfoldable pub recordsLines : List ℕ → ℕ → List Line
+recordsLines r zero = []
+recordsLines r (suc n) = recordsLines r n ++ recordLines r n
+
+-- then the book of them, and of a record with a layer added, into so many bytes
+abbrev pub BookFits : List ℕ → ℕ → Type 0
+BookFits r room = (length (bookIn r) ≤ room) × (length (bookIn r) ≤ 65536)
+
+abbrev pub writeLines : List ℕ → ℕ → List Line
+writeLines r room = recordsLines r (countIn r) ++ (19 unless BookFits r room) ∷ []
+
+abbrev pub addLines : Section → Layer → ℕ → List Line
+addLines s l room = layerLines s l ++ (19 unless recordSize (s .count + 1) ≤ room) ∷ []
 
 -- ---- of a class
 abbrev pub classLines : ℕ → ℕ → List Line

@@ -13,6 +13,7 @@ use borrow.Kind.ShrSlice.{pShrS}
 use borrow.Kind.MutSlice.{pMutS}
 use Rattle.book.proofs.BookAnswer as BookAnswer
 use Rattle.book.proofs.RecordAnswer as RecordAnswer
+use Rattle.writer.proofs.Written as Written
 use Rattle.class.proofs.ClassAnswer as ClassAnswer
 use Rattle.drawn.proofs.Point as Point
 use Rattle.drawn.proofs.Drawn as Drawn
@@ -30,6 +31,10 @@ bytes = pShrS (rtF (fInt w8)) 0 tt
 abbrev pub words : {n : ℕ} → PK (suc (suc n))
 words = pMutS (SInt w64) 1 tt
 
+-- `uint8_t *` and a `size_t`: bytes that are lent to be written, beside those
+abbrev pub lent : {n : ℕ} → PK (suc (suc n))
+lent = pMutS (rtF (fInt w8)) 1 tt
+
 abbrev pub Takes : {n : ℕ} → Contract n → List (PK n) → Type 3
 Takes c kinds = c .takes ≡ kinds
 
@@ -42,6 +47,10 @@ pub record Widths : Type 3 where
   pub book-answer : Gives Contracts.fw-book BookAnswer.the-type (u32-field ∷ u32-field ∷ [])
   pub fw-record : Takes Contracts.fw-record (bytes ∷ pNum w32 ∷ [])
   pub record-answer : Gives Contracts.fw-record RecordAnswer.the-type (u32-field ∷ u32-field ∷ u32-field ∷ [])
+  pub fw-write-book : Takes Contracts.fw-write-book (bytes ∷ lent ∷ [])
+  pub written-book : Gives Contracts.fw-write-book Written.the-type (u32-field ∷ u32-field ∷ [])
+  pub fw-add-layer : Takes Contracts.fw-add-layer (bytes ∷ pNum w16 ∷ pNum w16 ∷ lent ∷ [])
+  pub written-record : Gives Contracts.fw-add-layer Written.the-type (u32-field ∷ u32-field ∷ [])
   pub fw-class : Takes Contracts.fw-class (pNum w16 ∷ pNum w16 ∷ [])
   pub class-answer : Gives Contracts.fw-class ClassAnswer.the-type (u32-field ∷ u32-field ∷ u32-field ∷ [])
   pub fw-draw : Takes Contracts.fw-draw (bytes ∷ pSNum w32 ∷ [])

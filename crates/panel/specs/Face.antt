@@ -10,7 +10,7 @@ use Rattle.forces.specs.Answers.{imbalanceAnswer, momentAnswer}
 use Rattle.depths.specs.declared.Listing.{Listing}
 use Rattle.depths.specs.Answers.{unlisted, listAnswer, rowAfter}
 use Rattle.shear.specs.Shear.{shearAnswer}
-use Rattle.book.specs.Record.{ofRecord}
+use Rattle.record.specs.Record.{ofRecord}
 
 unfoldable pub drawnOf : List ℕ → ℤ → Drawn
 drawnOf r e = ofRecord r (λ s. drawnAnswer s e) refused

@@ -3,6 +3,7 @@ ghost use mathlib.Core.Path.{_≡_};
 ghost use Rattle.class.specs.Class.{classAnswer};
 ghost use lib.ListN.{length};
 ghost use Rattle.book.specs.Book.{bookAnswer, recordAnswer};
+ghost use Rattle.writer.specs.Written.{writeAnswer, bookAfter, addAnswer, recordAfter};
 ghost use Rattle.panel.specs.Face.{drawnOf, imbalanceOf, momentOf, listOf, rowOf, shearOf};
 use book::BookAnswer;
 use book::RecordAnswer;
@@ -10,6 +11,7 @@ use class::ClassAnswer;
 use depths::Listing;
 use drawn::Drawn;
 use section::Amount;
+use writer::Written;
 
 // The number of records of a book; or 1 to 4, and zero.
 #[no_mangle]
@@ -27,6 +29,22 @@ pub extern "C" fn fw_record(bytes: &[u8], number: u32) -> RecordAnswer
     book::record_place(bytes, number)
 }
 
+// A book of the sections of a string of records, into lent bytes; or 6, 7 to 13 of the first that is refused, or 19, and the bytes as they were.
+#[no_mangle]
+pub extern "C" fn fw_write_book(records: &[u8], book: &mut [u8]) -> Written
+    ensures { λ r. ⌜ (r ≡ writeAnswer (now (records .entry)) (length (now (book .entry)))) × (now (book .exit) ≡ bookAfter (now (records .entry)) (now (book .entry))) ⌝ }
+{
+    writer::write_book(records, book)
+}
+
+// A record with one layer more, into lent bytes; or 6, 12 or 19, and the bytes as they were.
+#[no_mangle]
+pub extern "C" fn fw_add_layer(part: &[u8], depth: u16, area: u16, out: &mut [u8]) -> Written
+    ensures { λ r. ⌜ (r ≡ addAnswer (now (part .entry)) (record { depth = depth; area = area }) (length (now (out .entry)))) × (now (out .exit) ≡ recordAfter (now (part .entry)) (record { depth = depth; area = area }) (now (out .entry))) ⌝ }
+{
+    writer::add_layer(part, depth, area, out)
+}
+
 // The class of a fibre concrete; or 17 and zeros.
 #[no_mangle]
 pub extern "C" fn fw_class(fr1: u16, fr3: u16) -> ClassAnswer
@@ -40,7 +58,7 @@ pub extern "C" fn fw_class(fr1: u16, fr3: u16) -> ClassAnswer
 pub extern "C" fn fw_draw(part: &[u8], strain: i32) -> Drawn
     ensures { λ r. ⌜ r ≡ drawnOf (now (part .entry)) strain ⌝ }
 {
-    let answer = book::section_of(part);
+    let answer = record::section_of(part);
     if answer.refusal != 0 {
         return Drawn::refused(answer.refusal);
     }
@@ -52,7 +70,7 @@ pub extern "C" fn fw_draw(part: &[u8], strain: i32) -> Drawn
 pub extern "C" fn fw_imbalance(part: &[u8], x: u32) -> Amount
     ensures { λ r. ⌜ r ≡ imbalanceOf (now (part .entry)) x ⌝ }
 {
-    let answer = book::section_of(part);
+    let answer = record::section_of(part);
     if answer.refusal != 0 {
         return Amount::refused(answer.refusal);
     }
@@ -64,7 +82,7 @@ pub extern "C" fn fw_imbalance(part: &[u8], x: u32) -> Amount
 pub extern "C" fn fw_moment(part: &[u8], x: u32) -> Amount
     ensures { λ r. ⌜ r ≡ momentOf (now (part .entry)) x ⌝ }
 {
-    let answer = book::section_of(part);
+    let answer = record::section_of(part);
     if answer.refusal != 0 {
         return Amount::refused(answer.refusal);
     }
@@ -76,7 +94,7 @@ pub extern "C" fn fw_moment(part: &[u8], x: u32) -> Amount
 pub extern "C" fn fw_depths(part: &[u8], row: &mut [i64]) -> Listing
     ensures { λ r. ⌜ (r ≡ listOf (now (part .entry)) (length (now (row .entry)))) × (now (row .exit) ≡ rowOf (now (part .entry)) (now (row .entry))) ⌝ }
 {
-    let answer = book::section_of(part);
+    let answer = record::section_of(part);
     if answer.refusal != 0 {
         return Listing::refused(answer.refusal);
     }
@@ -88,7 +106,7 @@ pub extern "C" fn fw_depths(part: &[u8], row: &mut [i64]) -> Listing
 pub extern "C" fn fw_shear(part: &[u8]) -> Amount
     ensures { λ r. ⌜ r ≡ shearOf (now (part .entry)) ⌝ }
 {
-    let answer = book::section_of(part);
+    let answer = record::section_of(part);
     if answer.refusal != 0 {
         return Amount::refused(answer.refusal);
     }

@@ -1,18 +1,18 @@
 -- A layer that is taken in leaves the layers right: in range and rising, at most 8. Assumes nothing.
-use Prim.Native.Nat.{ℕ, zero, suc, _+_, _<_}
+use Prim.Native.Nat.{ℕ, zero, suc, _+_, _-_, _≤_, _<_}
 use mathlib.Core.Path.{_≡_, refl, sym, _∙_, ap}
 use mathlib.Core.Bool.{Bool, true, false, cond, _&&_}
 use mathlib.Core.List.{List, [], _∷_, _++_, append-assoc}
 use native.Mathlib.Omega.{arith}
 use native.Mathlib.Numerals.{add-one}
 use lib.Dec.{ltb, leb, eqb}
-use lib.ListN.{length, length-append}
-use lib.Seq.{getD-append-seam}
+use lib.ListN.{length, drop, length-append, length-drop}
+use lib.Seq.{getD-append-seam, getD-append-add, getD-drop}
 use borrow.Author.Tests.{ltb-false, eqb-false, lt-ltb, le-leb}
 use Rattle.arith.proofs.Tests.{both, neither}
 use Rattle.section.specs.declared.Layer.{Layer}
 use Rattle.section.specs.declared.Section.{Section}
-use Rattle.section.specs.Section.{noLayer, layersFrom, layersOf, inRange, rise, layersRight}
+use Rattle.section.specs.Section.{noLayer, layerAt, layersFrom, layersOf, inRange, rise, layersRight}
 use Rattle.section.specs.Added.{taken, layerRefusal, inserted, withLayer}
 use Rattle.section.proofs.Layers.{rising}
 use Rattle.section.proofs.Rising.{in-layer, free}
@@ -68,11 +68,28 @@ from-append ps (x ∷ xs) ys =
     let r = rw (e, append-assoc ps (x ∷ []) (xs ++ ys)) at (from-append (ps ++ (x ∷ [])) xs ys) in
     rw (getD-append-seam ps x (xs ++ ys) noLayer, r)
 
+one-more : (s : Section) (l : Layer) → length (inserted l (layersOf s)) ≡ s .count + 1
+one-more s l = rw (length-inserted l (layersOf s), length-from (s .layers) 0 (s .count)) (sym (add-one (s .count)))
+
 pub layers-added : (s : Section) (l : Layer) → layersOf (withLayer s l) ≡ inserted l (layersOf s)
 unfolding withLayer
-layers-added s l =
-    let e : length (inserted l (layersOf s)) ≡ s .count + 1 = rw (length-inserted l (layersOf s), length-from (s .layers) 0 (s .count)) (sym (add-one (s .count))) in
-    rw (← e) (from-append [] (inserted l (layersOf s)) _)
+layers-added s l = rw (← (one-more s l)) (from-append [] (inserted l (layersOf s)) _)
+
+-- ---- and all places past it stay
+pub added-places : (s : Section) (l : Layer) → s .count < length (s .layers) → length (withLayer s l .layers) ≡ length (s .layers)
+unfolding withLayer
+added-places s l h = rw (length-append (inserted l (layersOf s)) (drop (s .count + 1) (s .layers)), length-drop (s .count + 1) (s .layers), one-more s l) (omega arith)
+
+pub added-past : (s : Section) (l : Layer) (j : ℕ) → s .count + 1 ≤ j → layerAt (withLayer s l .layers) j ≡ layerAt (s .layers) j
+unfolding withLayer
+added-past s l j h =
+    let ls = inserted l (layersOf s) in
+    let e : length ls + (j - length ls) ≡ j = omega (arith, one-more s l) in
+    let f : s .count + 1 + (j - length ls) ≡ j = omega (arith, one-more s l) in
+    ap (λ (i : ℕ). layerAt (ls ++ drop (s .count + 1) (s .layers)) i) (sym e)
+    ∙ getD-append-add ls (drop (s .count + 1) (s .layers)) (j - length ls) noLayer
+    ∙ getD-drop (s .count + 1) (s .layers) (j - length ls) noLayer
+    ∙ ap (layerAt (s .layers)) f
 
 pub added-right : (s : Section) (l : Layer) → layerRefusal s l ≡ 0 → layersRight (withLayer s l) ≡ true
 unfolding layersRight withLayer

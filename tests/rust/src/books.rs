@@ -1,63 +1,16 @@
-//! Random books, for the tests of what is asked of a book.
+//! Random books and strings of records, for the tests of what is asked of a book and of what makes one.
 mod faults;
+pub mod strings;
 pub mod tried;
 
 use crate::random::Random;
-use crate::rules;
+use crate::rules::{self, Parts};
 use crate::sections;
 use std::collections::BTreeSet;
 use std::iter::repeat_with;
 use std::ops::RangeInclusive;
 
 pub use faults::{pairs, restate, sole, Damage, Fault, DAMAGES, FAULTS};
-
-/// A book by its parts, as they are written: a fault puts one of them wrong and leaves the rest.
-#[derive(Debug, Clone)]
-pub struct Parts {
-    pub records: Vec<Vec<u8>>,
-    pub index: Vec<u32>,
-    pub place: u32,
-    pub n: u32,
-    pub length: u32,
-    pub letters: [u8; 4],
-}
-
-impl Parts {
-    /// A book of these records; a good one where each is as long as its layer count says.
-    pub fn of(records: Vec<Vec<u8>>) -> Parts {
-        let mut parts = Parts {
-            records,
-            index: vec![],
-            place: 0,
-            n: 0,
-            length: 0,
-            letters: *b"BOOK",
-        };
-        parts.settle();
-        parts
-    }
-
-    /// Makes the index and the last 16 bytes right for the records' lengths.
-    fn settle(&mut self) {
-        self.place = 0;
-        self.index.clear();
-        for record in &self.records {
-            self.index.push(self.place);
-            self.place += record.len() as u32;
-        }
-        self.n = self.index.len() as u32;
-        self.length = self.place + 4 * self.n + 16;
-    }
-
-    pub fn bytes(&self) -> Vec<u8> {
-        let words = [self.place, self.n, self.length];
-        let mut bytes = self.records.concat();
-        bytes.extend(self.index.iter().flat_map(|at| at.to_le_bytes()));
-        bytes.extend(words.into_iter().flat_map(u32::to_le_bytes));
-        bytes.extend(self.letters);
-        bytes
-    }
-}
 
 /// Document 01's book, and what the book program prints of it.
 pub fn sample() -> Parts {
@@ -73,6 +26,11 @@ pub const SAMPLE_LINES: &str = "\
 /// Any of a row that is not empty.
 fn any<'a, T>(random: &mut Random, row: &'a [T]) -> &'a T {
     &row[random.number() as usize % row.len()]
+}
+
+/// As many of each, in turn.
+fn in_turn<T: Clone>(row: &[T], times: usize) -> impl Iterator<Item = T> + '_ {
+    row.iter().cloned().cycle().take(times * row.len())
 }
 
 /// Books that share a few hundred records, since a list is dear.
@@ -106,6 +64,14 @@ impl Books {
         }
     }
 
+    /// Books of accepted sections alone, of any height.
+    pub fn accepted(seed: u64) -> Books {
+        let mut random = Random::new(seed);
+        let record = |_| sections::accepted(&mut random).record();
+        let records = (0..1000).map(record).collect();
+        Books { random, records }
+    }
+
     /// A good book of so many records.
     pub fn whole(&mut self, counts: RangeInclusive<i32>) -> Parts {
         let count = self.random.within(counts);
@@ -129,10 +95,10 @@ impl Books {
     }
 
     /// A book with this fault.
-    pub fn faulty(&mut self, (_, _, make): Fault) -> Vec<u8> {
+    pub fn faulty(&mut self, (_, _, make): Fault) -> Parts {
         let mut parts = self.whole(2..=6);
         make(&mut parts, &mut self.random);
-        parts.bytes()
+        parts
     }
 
     /// A book with this damage.
@@ -140,6 +106,13 @@ impl Books {
         let mut bytes = self.whole(0..=6).bytes();
         make(&mut bytes, &mut self.random);
         bytes
+    }
+
+    /// The string of a book's records with this damage.
+    pub fn damaged_string(&mut self, (_, _, make): Damage) -> Vec<u8> {
+        let mut string = self.whole(1..=6).records.concat();
+        make(&mut string, &mut self.random);
+        string
     }
 
     /// A book with both faults, in the order of their table.

@@ -1,6 +1,6 @@
 //! Cases for `tests/c/held.c`, the program that calls the C face and compares. It is a process of its own since the static library is
 //! x86-64 code and these tests are code for the machine at hand.
-use crate::rules::{Amount, BookAnswer, Class, Drawn, Listed, RecordAnswer, Sums};
+use crate::rules::{Amount, BookAnswer, Class, Drawn, Layer, Listed, RecordAnswer, Sums, Written};
 use std::io::{BufWriter, Write};
 use std::process::{Child, ChildStdin, Command, Stdio};
 
@@ -12,10 +12,13 @@ fn length<T>(of: &[T]) -> [u8; 2] {
 
 /// How a case of a function begins that takes a record.
 fn of_record(function: u8, record: &[u8]) -> Vec<u8> {
-    let mut case = vec![function];
-    case.extend(length(record));
-    case.extend(record);
-    case
+    [&[function], length(record).as_slice(), record].concat()
+}
+
+/// How a case of a function begins that takes a book or a string of records.
+fn of_string(function: u8, string: &[u8]) -> Vec<u8> {
+    let length = (string.len() as u32).to_le_bytes();
+    [&[function], length.as_slice(), string].concat()
 }
 
 pub struct Held {
@@ -93,22 +96,50 @@ impl Held {
 
     /// That `fw_depths` gives this, and makes of the row `before` the row `after`.
     pub fn depths(&mut self, record: &[u8], before: &[i64], listed: Listed, after: &[i64]) {
-        assert_eq!(before.len(), after.len());
         let mut case = of_record(b'l', record);
-        case.extend(length(after));
-        for word in before.iter().chain(after) {
-            case.extend(word.to_le_bytes());
+        case.extend(length(before));
+        let [before, after] = [before, after].map(|row| -> Vec<u8> {
+            let words = row.iter();
+            words.flat_map(|word| word.to_le_bytes()).collect()
+        });
+        self.writes(case, &before, [listed.refusal, listed.count], &after);
+    }
+
+    /// That `fw_write_book` gives this, and makes of the bytes `before` the bytes `after`.
+    pub fn write_book(&mut self, records: &[u8], before: &[u8], written: Written, after: &[u8]) {
+        let mut case = of_string(b'w', records);
+        case.extend((before.len() as u32).to_le_bytes());
+        self.writes(case, before, [written.refusal, written.len], after);
+    }
+
+    /// That `fw_add_layer` gives this, and makes of the bytes `before` the bytes `after`.
+    pub fn add_layer(
+        &mut self,
+        (record, layer): (&[u8], Layer),
+        before: &[u8],
+        written: Written,
+        after: &[u8],
+    ) {
+        let mut case = of_record(b'a', record);
+        for number in [layer.depth, layer.area] {
+            case.extend(number.to_le_bytes());
         }
-        case.extend(listed.refusal.to_le_bytes());
-        case.extend(listed.count.to_le_bytes());
+        case.extend(length(before));
+        self.writes(case, before, [written.refusal, written.len], after);
+    }
+
+    /// Ends a case of a function that writes into what it is lent.
+    fn writes(&mut self, mut case: Vec<u8>, before: &[u8], answer: [u32; 2], after: &[u8]) {
+        assert_eq!(before.len(), after.len());
+        case.extend(before);
+        case.extend(after);
+        case.extend(answer.map(u32::to_le_bytes).as_flattened());
         self.case(&case);
     }
 
     /// That `fw_book` gives this answer.
     pub fn book(&mut self, book: &[u8], answer: BookAnswer) {
-        let mut case = vec![b'b'];
-        case.extend((book.len() as u32).to_le_bytes());
-        case.extend(book);
+        let mut case = of_string(b'b', book);
         for number in [answer.refusal, answer.count] {
             case.extend(number.to_le_bytes());
         }

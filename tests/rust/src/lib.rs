@@ -2,6 +2,7 @@
 pub mod books;
 pub mod fraction;
 pub mod held;
+pub mod lent;
 pub mod random;
 pub mod rules;
 pub mod sections;

@@ -1,4 +1,5 @@
 //! Random numbers that are the same in every run: splitmix64, small enough to be written here.
+use std::collections::BTreeSet;
 use std::ops::RangeInclusive;
 
 pub struct Random(u64);
@@ -23,5 +24,11 @@ impl Random {
 
     pub fn pick<T: Copy>(&mut self, from: &[T]) -> T {
         from[self.number() as usize % from.len()]
+    }
+
+    /// What may be lent where so many words or bytes are to be written: none, one too few, just as many, and some more.
+    pub fn rooms(&mut self, needed: usize) -> BTreeSet<usize> {
+        let more = needed + self.within(1..=9) as usize;
+        BTreeSet::from([0, needed.saturating_sub(1), needed, more])
     }
 }

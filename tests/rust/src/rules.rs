@@ -7,6 +7,7 @@ mod drawn;
 mod law;
 mod section;
 mod shear;
+mod writer;
 
 pub use balance::{
     amounts, area, exact, list_of, listed, rounded, write, Amount, Axis, List, Listed, Sums,
@@ -17,3 +18,4 @@ pub use drawn::{draw, stress_drawn, Drawn, Point};
 pub use law::{Law, TABLE};
 pub use section::{Layer, Section};
 pub use shear::{c, shear, unlimited_c, unlimited_k, Shear};
+pub use writer::{add_layer, book_of, records, write_book, Parts, Written};

@@ -50,14 +50,12 @@ fn each_depth(mut take: impl FnMut(&[u8], u32)) {
     }
 }
 
-/// A row of no words, one too short by a word, one of just the list's words, and a longer one.
 fn each_row(mut take: impl FnMut(&Case, &[i64])) {
     let mut random = Random::new(7);
     let accepted = ACCEPTED.iter().map(|(_, case)| case);
     for case in accepted.chain(DAMAGED.iter()) {
         let words = case.list.as_ref().map_or(0, |list| 3 * list.len());
-        let longer = words + random.within(1..=9) as usize;
-        for words in BTreeSet::from([0, words.saturating_sub(1), words, longer]) {
+        for words in random.rooms(words) {
             let row: Vec<i64> = (0..words).map(|_| random.number() as i64).collect();
             take(case, &row);
         }

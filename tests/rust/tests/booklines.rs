@@ -1,6 +1,6 @@
 //! The book program: what it prints of the book on its standard input held to document 01's lines.
-use fordwhistle_tests::books::{self, tried, Books, Parts};
-use fordwhistle_tests::rules::{self, Layer, Section};
+use fordwhistle_tests::books::{self, tried, Books};
+use fordwhistle_tests::rules::{self, Layer, Parts, Section};
 use std::io::{self, ErrorKind, Read, Write};
 use std::os::unix::process::ExitStatusExt;
 use std::process::{Child, ChildStdin, Command, ExitStatus, Stdio};

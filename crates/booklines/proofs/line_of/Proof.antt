@@ -3,7 +3,7 @@ use mathlib.Core.Path.{_∙_}
 use borrow.Author.Needs.{needs}
 use Rattle.section.specs.Amount.{noAmount}
 use Rattle.shear.specs.Shear.{shearAnswer}
-use Rattle.book.proofs.Answers.{refuses-record, answers-record}
+use Rattle.record.proofs.Answers.{refuses-record, answers-record}
 use Rattle.booklines.specs.Line.{noBending, bendingAnswer, lineOf}
 use Rattle.booklines.proofs.line_of.Statement.{statement}
 use Rattle.booklines.proofs.line_of.Tie as tie

@@ -4,7 +4,7 @@ use borrow.Author.Needs.{needs}
 use lib.ListN.{length}
 use Rattle.depths.specs.Answers.{unlisted, listAnswer, rowAfter}
 use Rattle.panel.specs.Face.{listOf, rowOf}
-use Rattle.book.proofs.Answers.{refuses-record, answers-record}
+use Rattle.record.proofs.Answers.{refuses-record, answers-record}
 use Rattle.panel.proofs.fw_depths.Statement.{statement}
 use Rattle.panel.proofs.fw_depths.Tie as tie
 

@@ -4,7 +4,7 @@ use borrow.Author.Needs.{needs}
 use Rattle.arith.proofs.Machine.{read32}
 use Rattle.drawn.specs.Drawn.{refused, drawnAnswer}
 use Rattle.panel.specs.Face.{drawnOf}
-use Rattle.book.proofs.Answers.{refuses-record, answers-record}
+use Rattle.record.proofs.Answers.{refuses-record, answers-record}
 use Rattle.panel.proofs.fw_draw.Statement.{statement}
 use Rattle.panel.proofs.fw_draw.Tie as tie
 

@@ -4,7 +4,7 @@ use borrow.Author.Needs.{needs}
 use Rattle.section.specs.Amount.{noAmount}
 use Rattle.forces.specs.Answers.{imbalanceAnswer}
 use Rattle.panel.specs.Face.{imbalanceOf}
-use Rattle.book.proofs.Answers.{refuses-record, answers-record}
+use Rattle.record.proofs.Answers.{refuses-record, answers-record}
 use Rattle.panel.proofs.fw_imbalance.Statement.{statement}
 use Rattle.panel.proofs.fw_imbalance.Tie as tie
 

@@ -4,7 +4,7 @@ use borrow.Author.Needs.{needs}
 use Rattle.section.specs.Amount.{noAmount}
 use Rattle.forces.specs.Answers.{momentAnswer}
 use Rattle.panel.specs.Face.{momentOf}
-use Rattle.book.proofs.Answers.{refuses-record, answers-record}
+use Rattle.record.proofs.Answers.{refuses-record, answers-record}
 use Rattle.panel.proofs.fw_moment.Statement.{statement}
 use Rattle.panel.proofs.fw_moment.Tie as tie
 

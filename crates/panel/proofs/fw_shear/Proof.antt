@@ -4,7 +4,7 @@ use borrow.Author.Needs.{needs}
 use Rattle.section.specs.Amount.{noAmount}
 use Rattle.shear.specs.Shear.{shearAnswer}
 use Rattle.panel.specs.Face.{shearOf}
-use Rattle.book.proofs.Answers.{refuses-record, answers-record}
+use Rattle.record.proofs.Answers.{refuses-record, answers-record}
 use Rattle.panel.proofs.fw_shear.Statement.{statement}
 use Rattle.panel.proofs.fw_shear.Tie as tie
 

@@ -1,6 +1,7 @@
 //! What makes a book wrong: a fault one of its parts, a damage its bytes.
-use super::{any, Parts};
+use super::any;
 use crate::random::Random;
+use crate::rules::Parts;
 
 /// What is wrong, the refusals that it leads to in a book of two records or more, and what makes it so. In a book of fewer it may do
 /// nothing.

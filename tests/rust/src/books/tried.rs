@@ -1,5 +1,6 @@
 //! The books that are tried, by kind: more than a hundred thousand in all.
-use super::{pairs, restate, Books, Parts, DAMAGES, FAULTS};
+use super::{in_turn, pairs, restate, Books, DAMAGES, FAULTS};
+use crate::rules::Parts;
 
 pub fn all() -> impl Iterator<Item = Vec<u8>> {
     let faults = faulty().chain(damaged()).chain(twice()).chain(worse());
@@ -15,15 +16,13 @@ pub fn whole() -> impl Iterator<Item = Vec<u8>> {
 /// As many of each fault, in turn.
 pub fn faulty() -> impl Iterator<Item = Vec<u8>> {
     let mut books = Books::new(12);
-    let faults = FAULTS.into_iter().cycle().take(2500 * FAULTS.len());
-    faults.map(move |fault| books.faulty(fault))
+    in_turn(&FAULTS, 2500).map(move |fault| books.faulty(fault).bytes())
 }
 
 /// As many of each damage, in turn.
 pub fn damaged() -> impl Iterator<Item = Vec<u8>> {
     let mut books = Books::new(13);
-    let damages = DAMAGES.into_iter().cycle().take(2500 * DAMAGES.len());
-    damages.map(move |damage| books.damaged(damage))
+    in_turn(&DAMAGES, 2500).map(move |damage| books.damaged(damage))
 }
 
 /// As many of each pair of faults, in turn.

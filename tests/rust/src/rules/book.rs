@@ -1,6 +1,7 @@
 //! The section book. It is read word by word from its end, and what starts where is one row of bounds, where the proved code walks from
 //! record to record. Each test of the table stands alone, so that a test of these can put one of them wrong.
 use super::balance::{list_of, Amount};
+use super::section::record_length;
 use super::shear::shear;
 use std::collections::HashMap;
 
@@ -50,7 +51,7 @@ pub struct Bound {
 
 impl Bound {
     pub fn end(&self) -> u64 {
-        self.at + 24 + 4 * self.m
+        self.at + record_length(self.m)
     }
 }
 
@@ -58,6 +59,12 @@ impl Bound {
 fn number(bytes: &[u8]) -> u64 {
     let add = |n, byte: &u8| n << 8 | u64::from(*byte);
     bytes.iter().rev().fold(0, add)
+}
+
+/// The layer count of the record that bytes start with. A byte that is not there counts as 0.
+pub fn layer_count(bytes: &[u8]) -> u64 {
+    let from = bytes.get(20..).unwrap_or(&[]);
+    number(&from[..from.len().min(2)])
 }
 
 impl Book<'_> {
@@ -84,8 +91,7 @@ impl Book<'_> {
 
     /// The layer count of a record that starts there.
     pub fn layer_count(&self, at: u64) -> u64 {
-        let from = self.bytes.get(at as usize + 20..).unwrap_or(&[]);
-        number(&from[..from.len().min(2)])
+        layer_count(self.bytes.get(at as usize..).unwrap_or(&[]))
     }
 
     pub fn records(&self) -> impl DoubleEndedIterator<Item = Bound> + '_ {
@@ -158,7 +164,8 @@ impl Lines {
         let (refusal, at, len) = match has {
             Ok(()) => {
                 let at = book.bounds.get(number as usize).map_or(0, |at| *at);
-                (0, at as u32, 24 + 4 * book.layer_count(at) as u32)
+                let len = record_length(book.layer_count(at));
+                (0, at as u32, len as u32)
             }
             Err(refusal) => (refusal, 0, 0),
         };

@@ -22,6 +22,11 @@ pub struct Section {
     pub layers: Vec<Layer>,
 }
 
+/// How long a record of so many layers is.
+pub fn record_length(m: u64) -> u64 {
+    24 + 4 * m
+}
+
 impl Section {
     /// The section of a lone record, or its refusal, 6 to 13.
     pub fn of(record: &[u8]) -> Result<Section, u32> {
@@ -29,7 +34,8 @@ impl Section {
         section.refusal().map_or(Ok(section), Err)
     }
 
-    fn read(record: &[u8]) -> Option<Section> {
+    /// The section of a lone record, unless that is refused 6.
+    pub fn read(record: &[u8]) -> Option<Section> {
         let words: Vec<u16> = record
             .chunks_exact(2)
             .map(|word| u16::from_le_bytes([word[0], word[1]]))
@@ -39,7 +45,7 @@ impl Section {
         else {
             return None;
         };
-        let right = record.len() == 24 + 4 * usize::from(m) && m <= 8;
+        let right = record.len() as u64 == record_length(m.into()) && m <= 8;
         let layer = |bar: &[u16]| Layer {
             depth: bar[0],
             area: bar[1],
@@ -99,10 +105,32 @@ impl Section {
     }
 
     fn bars_right(&self) -> bool {
+        self.layers_right()
+            && (self.depths().max()).is_none_or(|depth| self.below_mid_height(depth))
+    }
+
+    /// Whether its layers are in range and their depths rise.
+    fn layers_right(&self) -> bool {
         self.layers.is_sorted_by(|a, b| a.depth < b.depth)
             && self.depths().all(|depth| (1..self.h).contains(&depth))
             && self.layers.iter().all(|layer| layer.area != 0)
-            && (self.depths().max()).is_none_or(|depth| self.below_mid_height(depth))
+    }
+
+    /// With a layer more, in its place by depth, unless that is refused 12.
+    pub fn with_layer(&self, layer: Layer) -> Option<Section> {
+        let mut added = self.clone();
+        added.layers.push(layer);
+        added.layers.sort_by_key(|layer| layer.depth);
+        let right = added.layers.len() <= 8 && self.layers_right() && added.layers_right();
+        right.then_some(added)
+    }
+
+    /// As it is written into a book: spacing 0 where there are no stirrups.
+    pub fn as_written(mut self) -> Section {
+        if self.asw == 0 {
+            self.spacing = 0;
+        }
+        self
     }
 
     pub fn below_mid_height(&self, depth: u16) -> bool {

@@ -1,0 +1,6 @@
+pub mod Past
+pub mod Alone
+pub mod Places
+pub mod Answers
+pub mod Placed
+pub mod Inverse

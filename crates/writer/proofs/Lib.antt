@@ -1,0 +1,7 @@
+mod Walk
+mod Puts
+pub mod Strings
+pub mod Layers
+pub mod Books
+pub mod Reading
+pub mod Back
