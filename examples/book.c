@@ -1,11 +1,12 @@
 /* book TEXT-FILE BOOK-FILE: writes the section book of a text, which is standard input where TEXT-FILE is -. A line is a section: the
  * whole numbers b h fck fyk feq2 feq3 load Asw s, then depth and area of each bar layer, the layers in any order, blanks between them. A
  * line that is blank or begins with # is passed over. Ends with 0 where the book is written; with 1 where lines are bad, and each is named
- * on standard error, or where they are too many for one book: BOOK-FILE then stays as it was; with 2 where a file can't be read or written:
- * a book that is not whole is not left. */
+ * on standard error, or where they are too many for one book; with 2 where a file can't be read or written. But for 0, BOOK-FILE stays as
+ * it was, and where there was none, none is left. */
 #include "fordwhistle.h"
 
 #include <stdio.h>
+#include <stdlib.h>
 #include <string.h>
 
 enum { LONGEST_RECORD = 56, LONGEST_BOOK = 65536 };
@@ -137,18 +138,30 @@ static int read_text(FILE *text)
     return good;
 }
 
-/* Whether the book could be written whole; a part of it is not left. */
-static int write_file(const char *name, size_t len)
+static int write_bytes(const char *name, size_t len)
 {
     FILE *file = fopen(name, "wb");
     size_t written;
     if (file == NULL)
         return 0;
     written = fwrite(book, 1, len, file);
-    if (fclose(file) == 0 && written == len)
-        return 1;
-    remove(name);
-    return 0;
+    return fclose(file) == 0 && written == len;
+}
+
+/* Whether the book could be written whole. It takes the name's place only then, so that a card without room keeps what it has. */
+static int write_file(const char *name, size_t len)
+{
+    static const char ending[] = ".part";
+    char *part = malloc(strlen(name) + sizeof ending);
+    int whole;
+    if (part == NULL)
+        return 0;
+    strcat(strcpy(part, name), ending);
+    whole = write_bytes(part, len) && rename(part, name) == 0;
+    if (!whole)
+        remove(part);
+    free(part);
+    return whole;
 }
 
 static int fails(const char *what, const char *name)
