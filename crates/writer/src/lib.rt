@@ -55,11 +55,11 @@ fn refusal_at(records: &[u8], at: usize) -> u32
     requires { ⌜ at < length (now records) ⌝ }
     ensures { λ r. ⌜ r ≡ refusalFrom (now (records .entry)) at ⌝ }
 {
-    let answer = section_of(part_at(records, at));
-    if answer.refusal != 0 {
-        return answer.refusal;
+    let read = section_of(part_at(records, at));
+    if read.refusal != 0 {
+        return read.refusal;
     }
-    answer.section.refusal()
+    read.section.refusal()
 }
 
 fn tally_of(records: &[u8]) -> Tally
@@ -154,10 +154,10 @@ fn put_index(records: &[u8], count: usize, book: &mut [u8])
     ensures { λ r. ⌜ now (book .exit) ≡ putAt (length (now (records .entry))) (joined (placeOf (sectionAt (now (records .entry)))) count) (now (book .entry)) ⌝ }
 {
     let index = records.len();
-    let mut at: usize = 0;
-    for i in 0..count {
-        put_number(at as u32, book, index + 4 * i);
-        at = at + size_at(records, at);
+    let mut place: usize = 0;
+    for k in 0..count {
+        put_number(place as u32, book, index + 4 * k);
+        place = place + size_at(records, place);
     }
 }
 
