@@ -1,7 +1,7 @@
 -- Lists one after another, and a list that is written from its front on. Assumes nothing.
 use Prim.Native.Nat.{ℕ, zero, suc, _+_, _*_, _-_, _≤_, _<_}
 use mathlib.Core.Path.{_≡_, refl, sym, ap, _∙_}
-use mathlib.Core.List.{List, [], _++_, append-assoc, append-nil}
+use mathlib.Core.List.{List, _++_, append-assoc, append-nil}
 use native.Mathlib.Nat.{add-zero, add-suc}
 use native.Mathlib.Numerals.{add-one}
 use native.Mathlib.Omega.{arith}
@@ -19,9 +19,6 @@ module _ {X : Type 0} where
   pub over-part : (p ws l : List X) (n : ℕ) → length p ≡ n → take n (over p l) ++ ws ++ drop (n + length ws) (over p l) ≡ over (p ++ ws) l
   over-part p ws l n e =
       rw (take-at p (drop (length p) l) n e, length-append p ws, ← e, drop-append-add p (drop (length p) l) (length ws), drop-drop (length ws) (length p) l)
-
-  pub over-none : (l : List X) → l ≡ over [] l
-  over-none l = refl
 
   pub over-front : (p l : List X) → take (length p) (over p l) ≡ p
   over-front p l = take-append-seam p (drop (length p) l)
