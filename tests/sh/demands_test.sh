@@ -68,7 +68,7 @@ refusing() {
     local answers
     answers=$(awk '/^pub struct / { name = $3 } /^    pub refusal: / { print name }' crates/*/src/*.rt | paste -sd '|')
     signatures | grep -E "	.*(: Section\\b|&\\[u8\\]|-> ($answers)\\b)" | cut -f1 |
-        grep -vE '^(section\.Section\.(last_depth|steel_area)|record\.(byte|le32|layers_at|size_at))$' |
+        grep -vE '^(section\.Section\.(last_depth|steel)|record\.(byte|le32|layers_at|size_at))$' |
         join -t '	' - <(named) | cut -f2 | sort
 }
 

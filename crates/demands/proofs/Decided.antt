@@ -7,7 +7,7 @@ decided = record {
   section-refusal = λ κs a x y e f p q. p ∙ sym q;
   with-layer = λ κs a x y e f p q. p ∙ sym q;
   last-depth = λ κs a x y e f p q. p ∙ sym q;
-  steel-area = λ κs a x y e f p q. p .0 ∙ sym (q .0);
+  steel = λ κs a x y e f p q. λ i. record { area = (p .0 ∙ sym (q .0)) i; moment = (p .1 ∙ sym (q .1)) i };
   amount-refused = λ κs a x y e f p q. p ∙ sym q;
   law-of = λ κs a x y e f p q. p ∙ sym q;
   concrete-size = λ κs a x y e f p q. p ∙ sym q;

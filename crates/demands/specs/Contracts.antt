@@ -9,8 +9,8 @@ use Rattle.section.proofs.Section.with_layer.Kinds as WithLayer
 use Rattle.section.proofs.Section.with_layer.Reads as WithLayerReads
 use Rattle.section.proofs.Section.last_depth.Kinds as LastDepth
 use Rattle.section.proofs.Section.last_depth.Reads as LastDepthReads
-use Rattle.section.proofs.Section.steel_area.Kinds as SteelArea
-use Rattle.section.proofs.Section.steel_area.Reads as SteelAreaReads
+use Rattle.section.proofs.Section.steel.Kinds as Steel
+use Rattle.section.proofs.Section.steel.Reads as SteelReads
 use Rattle.section.proofs.Amount.refused.Kinds as AmountRefused
 use Rattle.section.proofs.Amount.refused.Reads as AmountRefusedReads
 use Rattle.law.proofs.Law.of.Kinds as LawOf
@@ -106,8 +106,8 @@ with-layer = record { takes = WithLayer.ps; gives = WithLayer.r; asked = WithLay
 abbrev pub last-depth : Contract 0
 last-depth = record { takes = LastDepth.ps; gives = LastDepth.r; asked = LastDepthReads.Asked; told = LastDepthReads.Learnt }
 
-abbrev pub steel-area : Contract 0
-steel-area = record { takes = SteelArea.ps; gives = SteelArea.r; asked = SteelAreaReads.Asked; told = SteelAreaReads.Learnt }
+abbrev pub steel : Contract 0
+steel = record { takes = Steel.ps; gives = Steel.r; asked = SteelReads.Asked; told = SteelReads.Learnt }
 
 abbrev pub amount-refused : Contract 0
 amount-refused = record { takes = AmountRefused.ps; gives = AmountRefused.r; asked = AmountRefusedReads.Asked; told = AmountRefusedReads.Learnt }

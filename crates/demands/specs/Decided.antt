@@ -24,7 +24,7 @@ pub record Decided : Type 0 where
   pub section-refusal : One Contracts.section-refusal
   pub with-layer : One Contracts.with-layer
   pub last-depth : One Contracts.last-depth
-  pub steel-area : One Contracts.steel-area
+  pub steel : One Contracts.steel
   pub amount-refused : One Contracts.amount-refused
   pub law-of : One Contracts.law-of
   pub concrete-size : One Contracts.concrete-size

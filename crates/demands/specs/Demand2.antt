@@ -27,7 +27,7 @@ use Rattle.drawn.specs.Drawn.{PointNear, pointAt}
 use Rattle.drawn.specs.Pieces.{evaluated}
 use Rattle.strips.specs.declared.Range.{Range}
 use Rattle.strips.specs.Strips.{scaleOf, stripSize, stripAt}
-use Rattle.section.specs.Has.{concreteArea, steelArea, loadOf, lastDepth}
+use Rattle.section.specs.Has.{concreteArea, steelArea, steelMoment, loadOf, lastDepth}
 use Rattle.forces.specs.Forces.{strainScale, barAt, imbalance, moment}
 use Rattle.depths.specs.declared.Listing.{Listing}
 use Rattle.depths.specs.Depths.{listed, written}
@@ -89,9 +89,9 @@ pub record Demand2 : Type 0 where
   -- a section
   pub section-refusal : Every.section-refusal (λ s x. (x ≡ 0) ↔ Accepted s)
   pub with-layer : Every.with-layer (λ s depth area x. x .refusal ≡ 0 → LayerAdded s (record { depth = depth; area = area }) x)
-  -- what it has: the grid's last depth, the area of layers below mid-height; of any section, and none is refused
+  -- what it has: the grid's last depth, the layers below mid-height as one steel; of any section, and none is refused
   pub last-depth : Every.last-depth (λ s x. x ≡ lastDepth s)
-  pub steel-area : Every.steel-area (λ s x. x ≡ steelArea s)
+  pub steel : Every.steel (λ s x. (x .area ≡ steelArea s) × (x .moment ≡ steelMoment s))
   -- its law, and the stress of concrete and bars at the strain 500 t / q; the 0 of `sizeIn` is only of a law that no section has
   pub law-of : Every.law-of (λ s x. x .refusal ≡ 0 → x .law ≡ lawOf s)
   pub concrete-size : Every.concrete-size (λ l pulls t q x. x ≡ sizeIn l (concrete l pulls (500 * t) q))

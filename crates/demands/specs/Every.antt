@@ -10,6 +10,7 @@ use denote.Triple.Clauses.{AtExit}
 use borrow.Fn.Kinds.{Dens, resT, endedOf, Out}
 use Rattle.section.specs.declared.Section.{Section}
 use Rattle.section.specs.declared.Added.{Added}
+use Rattle.section.specs.declared.Steel.{Steel}
 use Rattle.law.specs.declared.Law.{Law}
 use Rattle.law.specs.declared.LawAnswer.{LawAnswer}
 use Rattle.drawn.specs.declared.Piece.{Piece}
@@ -43,8 +44,8 @@ with-layer says = Tells Contracts.with-layer (λ κs a x e. says (a .0) (a .1 .0
 abbrev pub last-depth : (Section → ℕ → Type 0) → Type 0
 last-depth says = Tells Contracts.last-depth (λ κs a x e. says (a .0) x)
 
-abbrev pub steel-area : (Section → ℕ → Type 0) → Type 0
-steel-area says = Tells Contracts.steel-area (λ κs a x e. says (a .0) x)
+abbrev pub steel : (Section → Steel → Type 0) → Type 0
+steel says = Tells Contracts.steel (λ κs a x e. says (a .0) x)
 
 abbrev pub amount-refused : (ℕ → Amount → Type 0) → Type 0
 amount-refused says = Tells Contracts.amount-refused (λ κs a x e. says (a .0) x)

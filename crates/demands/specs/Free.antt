@@ -14,7 +14,7 @@ pub record Free : Type 0 where
   pub section-refusal : AsksNothing Contracts.section-refusal
   pub with-layer : AsksNothing Contracts.with-layer
   pub last-depth : AsksNothing Contracts.last-depth
-  pub steel-area : AsksNothing Contracts.steel-area
+  pub steel : AsksNothing Contracts.steel
   pub amount-refused : AsksNothing Contracts.amount-refused
   pub law-of : AsksNothing Contracts.law-of
   pub concrete-size : AsksNothing Contracts.concrete-size

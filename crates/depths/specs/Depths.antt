@@ -15,12 +15,15 @@ use Rattle.forces.specs.Forces.{imbalance, moment}
 abbrev pub opposite : ℤ → ℤ → Bool
 opposite a b = (ltZ a (pos 0) && ltZ (pos 0) b) || (ltZ (pos 0) a && ltZ b (pos 0))
 
--- kind 1 if the imbalance is zero, kind 2 if it has the opposite sign at the next depth of the grid, else none
-unfoldable pub kindAt : Section → ℕ → ℕ
-kindAt s x =
-    cond (eqb (natAbs (imbalance s x)) 0) 1
-    (cond (ltb x (lastDepth s) && opposite (imbalance s x) (imbalance s (x + 1))) 2
+-- of any imbalances on a grid: kind 1 if the imbalance is zero, kind 2 if it has the opposite sign at the next depth of the grid, else none
+abbrev pub kindOf : (ℕ → ℤ) → (last : ℕ) → ℕ → ℕ
+kindOf imbalance last x =
+    cond (eqb (natAbs (imbalance x)) 0) 1
+    (cond (ltb x last && opposite (imbalance x) (imbalance (x + 1))) 2
     0)
+
+unfoldable pub kindAt : Section → ℕ → ℕ
+kindAt s = kindOf (imbalance s) (lastDepth s)
 
 pub record Entry : Type 0 where
   pub depth : ℕ

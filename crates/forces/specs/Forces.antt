@@ -58,9 +58,13 @@ forces l s x = sumZ (s .h) (stripForce l s x) +ℤ sumZ (s .count) (barForce l s
 unfoldable pub moments : Law → Section → ℕ → ℤ
 moments l s x = sumZ (s .h) (stripMoment l s x) +ℤ sumZ (s .count) (barMoment l s x)
 
--- ---- the sums of a section at a depth
+-- minus the axial load
+abbrev pub imbalanceUnder : Law → Section → ℕ → ℤ
+imbalanceUnder l s x = forces l s x -ℤ loadOf s
+
+-- ---- the sums of a section at a depth, under its own law
 unfoldable pub imbalance : Section → ℕ → ℤ
-imbalance s x = forces (lawOf s) s x -ℤ loadOf s
+imbalance s x = imbalanceUnder (lawOf s) s x
 
 unfoldable pub moment : Section → ℕ → ℤ
 moment s x = moments (lawOf s) s x

@@ -8,9 +8,8 @@ use Rattle.section.specs.declared.Section.{Section}
 use Rattle.section.specs.Accepted.{Accepted}
 use Rattle.section.specs.Refusal.{sectionRefusal}
 use Rattle.section.proofs.Accepted.{accepted}
-use Rattle.law.specs.declared.Law.{Law}
 use Rattle.law.specs.declared.LawAnswer.{LawAnswer}
-use Rattle.law.specs.Law.{effectiveDepth, lawBy, lawOf, refused, lawAnswer}
+use Rattle.law.specs.Law.{lawOf, refused, lawAnswer}
 
 answer-refusal : (s : Section) → lawAnswer s .refusal ≡ sectionRefusal s
 unfolding lawAnswer
@@ -33,8 +32,3 @@ module _ (s : Section) {a : LawAnswer} (is : a ≡ lawAnswer s) where
   -- what is known of a section that is not refused
   pub passes : a .refusal ≡ 0 → Accepted s × (a .law ≡ lawOf s)
   passes h = (accepted s (no-refusal h), ap (λ (x : LawAnswer). x .law) is ∙ answer-law s (no-refusal h))
-
--- the effective depth that a section's law carries
-pub depth-is : (s : Section) {l : Law} → l ≡ lawOf s → l .d ≡ effectiveDepth s
-unfolding lawBy
-depth-is s is = ap (λ (l : Law). l .d) is

@@ -91,6 +91,7 @@ law-in {s} a =
       fyd = (omega arith, omega arith);
       strain = refl;
       limit = (limit-in a .0, omega (arith, limit-in a .1, a .sizes .1 .1));
+      d = depth-in a;
       ratio = refl;
       drawn = refl;
     }

@@ -58,8 +58,12 @@ lawBy fck d limit fyk feq2 feq3 = record {
   drawn = edition .drawnTension;
 }
 
+-- a section's law with an effective depth d
+abbrev pub lawWith : (d : ℕ) → Section → Law
+lawWith d s = lawBy (s .fck) d (limitDepth s) (s .fyk) (s .feq2) (s .feq3)
+
 abbrev pub lawOf : Section → Law
-lawOf s = lawBy (s .fck) (effectiveDepth s) (limitDepth s) (s .fyk) (s .feq2) (s .feq3)
+lawOf s = lawWith (effectiveDepth s) s
 
 abbrev pub answered : Law → LawAnswer
 answered law = record { refusal = 0; law = law }

@@ -22,5 +22,6 @@ pub record LawIn (l : Law) : Type 0 where
   pub fyd : (347826 ≤ l .fyd) × (l .fyd ≤ 521739)
   pub strain : l .strain ≡ edition .limitStrain
   pub limit : (0 < l .limit) × (l .limit ≤ 1000)
+  pub d : (0 < l .d) × (l .d ≤ 1000)
   pub ratio : l .ratio ≡ edition .limitRatio
   pub drawn : l .drawn ≡ edition .drawnTension

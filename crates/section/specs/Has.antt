@@ -1,5 +1,5 @@
 -- What a section has, of any section. Lengths in mm, areas in mm², the load in mN.
-use Prim.Native.Nat.{ℕ}
+use Prim.Native.Nat.{ℕ, _*_}
 use mathlib.Core.Bool.{cond}
 use lib.IntN.{ℤ, pos, _*ℤ_}
 use Rattle.arith.specs.Sums.{sumN}
@@ -26,6 +26,13 @@ areaBelow s j = cond (belowMid s (depthAt s j)) (areaAt s j) 0
 
 unfoldable pub steelArea : Section → ℕ
 steelArea s = sumN (s .count) (areaBelow s)
+
+-- the sum of area times depth of these layers
+abbrev pub momentBelow : Section → ℕ → ℕ
+momentBelow s j = areaBelow s j * depthAt s j
+
+unfoldable pub steelMoment : Section → ℕ
+steelMoment s = sumN (s .count) (momentBelow s)
 
 -- the axial load, in mN
 abbrev pub loadOf : Section → ℤ

@@ -3,13 +3,13 @@ ghost use mathlib.Core.Path.{_≡_};
 ghost use mathlib.Core.Bool.{true, cond, _&&_};
 ghost use mathlib.Core.List.{_++_};
 ghost use Prim.Native.Nat.{_+_, _*_, _-_, _≤_, _<_};
-ghost use lib.Dec.{leb};
+ghost use lib.Dec.{ltb, leb};
 ghost use lib.IntN.{natAbs};
 ghost use lib.ListN.{drop};
 ghost use Rattle.section.specs.Section.{layersOf, inRange, layersRight};
 ghost use Rattle.section.specs.Refusal.{within, midRight, sectionRefusal};
 ghost use Rattle.section.specs.Added.{taken, layerRefusal, inserted, addedAnswer};
-ghost use Rattle.section.specs.Has.{steelArea, lastDepth};
+ghost use Rattle.section.specs.Has.{steelArea, steelMoment, lastDepth};
 ghost use Rattle.section.specs.Amount.{noAmount};
 
 pub struct Layer {
@@ -35,6 +35,12 @@ pub struct Section {
 pub struct Added {
     pub refusal: u32,
     pub section: Section,
+}
+
+// The layers below mid-height as one steel: their area As, and the sum of area times depth.
+pub struct Steel {
+    pub area: u64,
+    pub moment: u64,
 }
 
 // A force in mN, or a moment in mN half-mm, that is answered of a section.
@@ -154,6 +160,17 @@ fn places(count: u16) -> usize
     if count < 8 { count as usize } else { 8 }
 }
 
+// The area of a layer below mid-height, else 0.
+fn area_below(h: u16, depth: u16, area: u16) -> u64
+    ensures { λ r. ⌜ (r ≡ cond (ltb h (2 * depth)) area 0) × (r ≤ 65535) ⌝ }
+{
+    if (h as u32) < 2 * (depth as u32) {
+        area as u64
+    } else {
+        0
+    }
+}
+
 impl Amount {
     // A refusal's number beside zero.
     pub fn refused(number: u32) -> Amount
@@ -174,20 +191,23 @@ impl Section {
         self.h as u32
     }
 
-    // As: the area of layers below mid-height.
-    pub fn steel_area(self) -> u64
-        ensures { λ r. ⌜ (r ≡ steelArea self) × (r ≤ 65535 * 8) ⌝ }
+    // The layers below mid-height, as one steel.
+    pub fn steel(self) -> Steel
+        ensures { λ r. ⌜ (r .area ≡ steelArea self) × (r .moment ≡ steelMoment self) × (r .area ≤ 65535 * 8) ⌝ }
     {
         let m = places(self.count);
-        let h = self.h as u32;
-        let mut sum: u64 = 0;
+        let mut areas: u64 = 0;
+        let mut moments: u64 = 0;
         for j in 0..m {
             let layer = self.layers[j];
-            if h < 2 * (layer.depth as u32) {
-                sum = sum + layer.area as u64;
-            }
+            let here = area_below(self.h, layer.depth, layer.area);
+            areas = areas + here;
+            moments = moments + here * (layer.depth as u64);
         }
-        sum
+        Steel {
+            area: areas,
+            moment: moments,
+        }
     }
 
     // The refusal of a section, 7 to 13, or 0. It is built from the table's last line up, so that the first that holds stays.

@@ -6,8 +6,6 @@ use native.Mathlib.Omega.{arith}
 use Rattle.arith.proofs.Sums.{sum-alike}
 use Rattle.section.specs.declared.Section.{Section}
 use Rattle.section.specs.Accepted.{Accepted}
-use Rattle.law.specs.Law.{effectiveDepth}
-use Rattle.law.proofs.Ranges.{depth-in}
 use Rattle.section.specs.Has.{concreteArea}
 
 -- a length, and b times it
@@ -17,14 +15,11 @@ pub record AreaIn (b n : ℕ) : Type 0 where
   pub area : 0 < b * n
   pub area-most : b * n ≤ 2000000
 
-times-width : {s : Section} → Accepted s → (n : ℕ) → 0 < n → n ≤ 1000 → AreaIn (s .b) n
+-- b d, of any d in range
+pub times-width : {s : Section} → Accepted s → (n : ℕ) → 0 < n → n ≤ 1000 → AreaIn (s .b) n
 times-width {s} a n h k =
     let w : 0 < s .b = omega (arith, a .sizes .0 .0) in
     record { some = h; most = k; area = NatL.mul-pos w h; area-most = NatL.mul-le-mul {n₂ = 2000} {m₂ = 1000} (a .sizes .0 .1) k }
-
--- b d
-pub web-in : {s : Section} (d : ℕ) → Accepted s → d ≡ effectiveDepth s → AreaIn (s .b) d
-web-in d a e = let k = depth-in a in times-width a d (rw e (k .0)) (rw e (k .1))
 
 -- b h
 pub area-in : {s : Section} → Accepted s → AreaIn (s .b) (s .h)

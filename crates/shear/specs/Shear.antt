@@ -13,7 +13,8 @@ use Rattle.section.specs.declared.Amount.{Amount}
 use Rattle.section.specs.Refusal.{line, firstOf, sectionRefusal}
 use Rattle.section.specs.Has.{concreteArea, steelArea, loadOf}
 use Rattle.section.specs.Amount.{answered, noAmount}
-use Rattle.law.specs.Law.{effectiveDepth, lawOf}
+use Rattle.law.specs.declared.Law.{Law}
+use Rattle.law.specs.Law.{lawOf}
 
 -- ---- the roots
 abbrev pub squared : ℕ → ℕ → ℕ
@@ -41,10 +42,8 @@ atLeastZero z = cond (ltZ z (pos 0)) 0 (natAbs z)
 unfoldable pub axialShare : Section → ℤ
 axialShare s = floorDiv (pos 15 *ℤ loadOf s) (100 * concreteArea s)
 
-unfoldable pub concreteShare : Section → ℕ
-concreteShare s =
-    let d = effectiveDepth s in
-    atLeastZero (pos (12 * kOf d * cOf (s .b * d) (steelArea s) (s .fck) / 100000) +ℤ axialShare s)
+unfoldable pub concreteShare : (d : ℕ) → Section → ℕ
+concreteShare d s = atLeastZero (pos (12 * kOf d * cOf (s .b * d) (steelArea s) (s .fck) / 100000) +ℤ axialShare s)
 
 -- ---- fibres (equations 16, 18 and 19): t = 12 feq3 / 100, then t x max(1000, 1600 - d) / 1000
 unfoldable pub fibreShare : (feq3 d : ℕ) → ℕ
@@ -58,13 +57,16 @@ stirrups asw d fyd spacing = cond (eqb asw 0) 0 (9 * asw * d * fyd / (10 * spaci
 unfoldable pub struts : (fck bd : ℕ) → ℕ
 struts fck bd = max 500 (700 - 5 * fck) * (2000 * fck / 3) * (9 * bd) / 20000
 
--- ---- the resistance (equation 11): the lesser of the sum and the struts
-unfoldable pub resistance : Section → ℕ
-resistance s =
-    let d = effectiveDepth s in
+-- ---- the resistance (equation 11) under a law, whose d and fyd it takes: the lesser of the sum and the struts
+unfoldable pub resistanceUnder : Law → Section → ℕ
+resistanceUnder l s =
+    let d = l .d in
     min
-    ((concreteShare s + fibreShare (s .feq3) d) * (s .b * d) + stirrups (s .asw) d (lawOf s .fyd) (s .spacing))
+    ((concreteShare d s + fibreShare (s .feq3) d) * (s .b * d) + stirrups (s .asw) d (l .fyd) (s .spacing))
     (struts (s .fck) (s .b * d))
+
+abbrev pub resistance : Section → ℕ
+resistance s = resistanceUnder (lawOf s) s
 
 -- ---- the answer: 7 to 13, then 16 without bars
 unfoldable pub shearRefusal : Section → ℕ

@@ -5,8 +5,8 @@ ghost use lib.IntN.{natAbs};
 ghost use Rattle.arith.specs.Floor.{floorDiv};
 ghost use Rattle.arith.specs.Largest.{Largest};
 ghost use Rattle.section.specs.Accepted.{Accepted};
-ghost use Rattle.law.specs.Law.{effectiveDepth, lawOf};
-ghost use Rattle.shear.specs.Shear.{kOf, cOf, atLeastZero, axialShare, concreteShare, fibreShare, stirrups, struts, resistance, shearAnswer};
+ghost use Rattle.law.specs.Law.{lawOf};
+ghost use Rattle.shear.specs.Shear.{kOf, cOf, atLeastZero, axialShare, concreteShare, fibreShare, stirrups, struts, resistanceUnder, shearAnswer};
 ghost use Rattle.shear.specs.Code.{raised, pastRoots, mostAxial, mostConcrete, mostShear};
 use law::Law;
 use section::Amount;
@@ -94,14 +94,11 @@ fn at_least_zero(z: i64) -> u64
 
 // In kPa, with the axial share.
 fn concrete_share(section: Section, d: u64) -> u64
-    requires { ⌜ (Accepted section) × (d ≡ effectiveDepth section) ⌝ }
-    ensures { λ r. ⌜ (r ≡ concreteShare section) × (r ≤ mostConcrete) ⌝ }
+    requires { ⌜ (Accepted section) × (0 < d) × (d ≤ 1000) ⌝ }
+    ensures { λ r. ⌜ (r ≡ concreteShare d section) × (r ≤ mostConcrete) ⌝ }
 {
-    let c = c_of(
-        section.b as u64 * d,
-        section.steel_area(),
-        section.fck as u64,
-    );
+    let steel = section.steel();
+    let c = c_of(section.b as u64 * d, steel.area, section.fck as u64);
     let share = 12 * k_of(d) * c / 100000;
     at_least_zero(share as i64 + axial_share(section))
 }
@@ -136,7 +133,7 @@ fn struts(fck: u64, bd: u64) -> u64
 // The lesser of the sum and the struts, in mN.
 fn resistance(section: Section, law: Law) -> u64
     requires { ⌜ (Accepted section) × (law ≡ lawOf section) ⌝ }
-    ensures { λ r. ⌜ (r ≡ resistance section) × (r ≤ mostShear) ⌝ }
+    ensures { λ r. ⌜ (r ≡ resistanceUnder law section) × (r ≤ mostShear) ⌝ }
 {
     let d = law.d as u64;
     let bd = section.b as u64 * d;

@@ -8,16 +8,15 @@ use mir.Syntax.{w64}
 use mir.Val.{toZ}
 use borrow.Author.Needs.{needs}
 use Rattle.arith.proofs.Machine.{back, Stands, stands-pos, returned, stands-add, stands-fits, stored, stands-for}
-use Rattle.law.specs.Law.{effectiveDepth}
 use Rattle.section.specs.Has.{steelArea}
 use Rattle.shear.specs.Shear.{kOf, cOf, atLeastZero, axialShare, concreteShare}
 use Rattle.shear.specs.Code.{pastRoots, mostAxial, mostConcrete}
-use Rattle.shear.proofs.Ranges.{AreaIn, web-in}
+use Rattle.shear.proofs.Ranges.{AreaIn, times-width}
 use Rattle.shear.proofs.concrete_share.Statement.{statement}
 use Rattle.shear.proofs.concrete_share.Tie as tie
 
 web : (c : tie.Start) → AreaIn (c .args .section .b) (c .args .d)
-web c = web-in (c .args .d) (c .pre .0) (c .pre .1)
+web c = times-width (c .pre .0) (c .args .d) (c .pre .1) (c .pre .2)
 
 -- 12 k c
 product : (c : tie.After-k-of) → 12 * c .k-of .result * c .before .c-of .result ≤ 12 * 2000 * pastRoots
@@ -31,17 +30,15 @@ abbrev share : tie.After-axial-share → ℕ
 share c = 12 * c .before .k-of .result * c .before .before .c-of .result / 100000
 
 abbrev shareOf : tie.After-axial-share → ℕ
-shareOf c = let s = begun c .args .section in let d = effectiveDepth s in 12 * kOf d * cOf (s .b * d) (steelArea s) (s .fck) / 100000
+shareOf c = let s = begun c .args .section in let d = begun c .args .d in 12 * kOf d * cOf (s .b * d) (steelArea s) (s .fck) / 100000
 
 share-is : (c : tie.After-axial-share) → share c ≡ shareOf c
 share-is c =
     let s = begun c .args .section in
-    let d = begun c .pre .1 in
-    let steel = c .before .before .before .before .steel-area .ensures .0 in
-    let k : c .before .k-of .result ≡ kOf (effectiveDepth s) = c .before .k-of .ensures .0 ∙ ap kOf d in
-    let e : c .before .before .c-of .result ≡ cOf (s .b * effectiveDepth s) (steelArea s) (s .fck) =
-    c .before .before .c-of .ensures .0 ∙ (λ i. cOf (s .b * d i) (steel i) (s .fck)) in
-    λ i. 12 * k i * e i / 100000
+    let bd = s .b * begun c .args .d in
+    let steel = c .before .before .before .before .before .steel .ensures .0 in
+    let e : c .before .before .c-of .result ≡ cOf bd (steelArea s) (s .fck) = c .before .before .c-of .ensures .0 ∙ ap (λ n. cOf bd n (s .fck)) steel in
+    λ i. 12 * (c .before .k-of .ensures .0 i) * e i / 100000
 
 sum : (c : tie.After-axial-share) → Stands (toZ w64 (share c) +ℤ back (c .axial-share .result)) (pos (shareOf c) +ℤ axialShare (begun c .args .section)) mostConcrete
 sum c =
@@ -59,11 +56,11 @@ pub concrete-share-spec : {M : Type 1} → statement M
 concrete-share-spec =
     tie.close
     (tie.spec
-    (λ c. search needs)
-    (λ c. record { fits = omega (arith, web (c .before) .area-most) })
     (λ c κs. search needs)
     (λ c. search needs)
-    (λ c κs. let w = web (c .before .before .before) in (w .area, w .area-most, c .before .steel-area .ensures .1, c .before .before .before .pre .0 .concrete .0 .1))
+    (λ c. record { fits = omega (arith, web (c .before .before) .area-most) })
+    (λ c. search needs)
+    (λ c κs. let e = c .before .before .before in (web e .area, web e .area-most, c .before .before .steel .ensures .2, e .pre .0 .concrete .0 .1))
     (λ c κs. let w = web (c .before .before .before .before) in (w .some, w .most))
     (λ c. search needs)
     (λ c. record { fits = omega (arith, product c) })

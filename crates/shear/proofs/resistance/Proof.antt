@@ -1,27 +1,22 @@
 -- `resistance`: the shares, the stirrups and the struts. Assumes nothing.
 use Prim.Native.Nat.{_+_, _*_, _≤_, min}
-use mathlib.Core.Path.{_≡_, ap, _∙_}
+use mathlib.Core.Path.{_≡_, _∙_}
 use native.Mathlib.Nat as NatL
 use native.Mathlib.Omega.{arith}
 use borrow.Author.Needs.{needs}
-use Rattle.law.specs.declared.Law.{Law}
-use Rattle.law.specs.Law.{effectiveDepth, lawOf}
+use Rattle.law.specs.Ranges.{LawIn}
 use Rattle.law.proofs.Ranges.{law-in}
-use Rattle.law.proofs.Answers.{depth-is}
-use Rattle.shear.specs.Shear.{concreteShare, fibreShare, stirrups, struts, resistance}
+use Rattle.shear.specs.Shear.{stirrups, struts, resistanceUnder}
 use Rattle.shear.specs.Code.{mostConcrete}
-use Rattle.shear.proofs.Ranges.{AreaIn, web-in}
+use Rattle.shear.proofs.Ranges.{AreaIn, times-width}
 use Rattle.shear.proofs.resistance.Statement.{statement}
 use Rattle.shear.proofs.resistance.Tie as tie
 
-d-is : (c : tie.Start) → c .args .law .d ≡ effectiveDepth (c .args .section)
-d-is c = depth-is (c .args .section) (c .pre .1)
-
-fyd-is : (c : tie.Start) → c .args .law .fyd ≡ lawOf (c .args .section) .fyd
-fyd-is c = ap (λ (l : Law). l .fyd) (c .pre .1)
+ranges : (c : tie.Start) → LawIn (c .args .law)
+ranges c = rw (c .pre .1) (law-in (c .pre .0))
 
 web : (c : tie.Start) → AreaIn (c .args .section .b) (c .args .law .d)
-web c = web-in (c .args .law .d) (c .pre .0) (d-is c)
+web c = let d = ranges c .d in times-width (c .pre .0) (c .args .law .d) (d .0) (d .1)
 
 abbrev begun : tie.After-fibre-share → tie.Start
 begun c = c .before .before .before .before .before
@@ -35,20 +30,19 @@ shares c =
     NatL.mul-le-mul {n₂ = mostConcrete + 4000} {m₂ = 2000000} (omega (arith, concrete, c .fibre-share .ensures .1)) (web (begun c) .area-most)
 
 returns : tie.Need-returns
-unfolding resistance
+unfolding resistanceUnder
 returns c =
     let w = c .before .before .before in
     let f = w .before .before in
     let a = begun f .args in
     let s = a .section in
-    let d = d-is (begun f) in
-    let concreteIs : f .before .before .concrete-share .result ≡ concreteShare s = f .before .before .concrete-share .ensures .0 in
-    let fibresIs : f .fibre-share .result ≡ fibreShare (s .feq3) (effectiveDepth s) = f .fibre-share .ensures .0 ∙ ap (fibreShare (s .feq3)) d in
-    let stirrupsIs = w .stirrups .ensures .0 ∙ (λ i. stirrups (s .asw) (d i) (fyd-is (begun f) i) (s .spacing)) in
-    let strutsIs = c .before .struts .ensures .0 ∙ ap (λ n. struts (s .fck) (s .b * n)) d in
+    let concreteIs = f .before .before .concrete-share .ensures .0 in
+    let fibresIs = f .fibre-share .ensures .0 in
+    let stirrupsIs = w .stirrups .ensures .0 in
+    let strutsIs = c .before .struts .ensures .0 in
     let sum = (f .before .before .concrete-share .result + f .fibre-share .result) * (s .b * a .law .d) + w .stirrups .result in
     let is : c .least .result ≡ min sum (c .before .struts .result) = c .least .ensures in
-    (is ∙ (λ i. min ((concreteIs i + fibresIs i) * (s .b * d i) + stirrupsIs i) (strutsIs i)), omega (arith, is, NatL.min-le-right sum (c .before .struts .result), c .before .struts .ensures .1))
+    (is ∙ (λ i. min ((concreteIs i + fibresIs i) * (s .b * a .law .d) + stirrupsIs i) (strutsIs i)), omega (arith, is, NatL.min-le-right sum (c .before .struts .result), c .before .struts .ensures .1))
 
 pub resistance-spec : {M : Type 1} → statement M
 resistance-spec =
@@ -57,13 +51,13 @@ resistance-spec =
     (λ c. search needs)
     (λ c. search needs)
     (λ c. record { fits = omega (arith, web (c .before .before) .area-most) })
-    (λ c κs. (c .before .before .pre .0, d-is (c .before .before)))
+    (λ c κs. let e = c .before .before in let d = ranges e .d in (e .pre .0, d .0, d .1))
     (λ c. search needs)
     (λ c κs. let e = c .before .before .before .before in (e .pre .0 .fibres .1, web e .most))
     (λ c. search needs)
     (λ c. record { fits = omega (arith, shares c) })
     (λ c. search needs)
-    (λ c κs. let e = begun (c .before) in (web e .most, omega (arith, fyd-is e, law-in (e .pre .0) .fyd .1), e .pre .0 .stirrups))
+    (λ c κs. let e = begun (c .before) in (web e .most, ranges e .fyd .1, e .pre .0 .stirrups))
     (λ c. record { fits = omega (arith, shares (c .before .before), c .stirrups .ensures .1) })
     (λ c. search needs)
     (λ c κs. let e = begun (c .before .before .before) in (e .pre .0 .concrete .0 .1, web e .area-most))
