@@ -1,7 +1,22 @@
 /* Document 01's formulas in C as they stand there: 64-bit integers, the law's numbers once for a section, a division for each strip. */
 #include "plain.h"
 
+/* d, as request [2] of document 02 has it: the centroid of the layers below mid-height, rounded; h without bars. */
 static int64_t effective_depth(const section *s)
+{
+    int64_t areas = 0, moments = 0;
+    for (int j = 0; j < s->m; j++) {
+        int64_t depth = s->layers[j].depth, area = s->layers[j].area;
+        if (2 * depth > s->h) {
+            areas += area;
+            moments += area * depth;
+        }
+    }
+    return s->m > 0 ? moments / areas : s->h;
+}
+
+/* Where the strain of 10 per mille is reached: the depth of the deepest layer, or h without bars. */
+static int64_t limit_depth(const section *s)
 {
     return s->m > 0 ? s->layers[s->m - 1].depth : s->h;
 }
@@ -24,9 +39,9 @@ law law_of(const section *s)
 
 axis axis_at(const section *s, int64_t x)
 {
-    int64_t d = effective_depth(s);
-    if (7 * d > 27 * x)
-        return (axis){x, 10000, 2 * (d - x)};
+    int64_t limit = limit_depth(s);
+    if (7 * limit > 27 * x)
+        return (axis){x, 10000, 2 * (limit - x)};
     return (axis){x, 3500, 2 * x};
 }
 

@@ -132,6 +132,14 @@ typedef struct {
  * letter are then 0. Writes nothing. */
 fw_class_answer fw_class(uint16_t fr1, uint16_t fr3);
 
+/* The two depths of a section that the formulas below take. A layer lies below mid-height where twice its depth is more than h.
+ *
+ *   d      the effective depth, for s1 and the shear: the centroid of the layers below mid-height, which is the sum of area x depth over
+ *          the sum of areas, both of these layers alone, rounded down to a whole number; h without bars
+ *   limit  the limit depth, for the strains, where tension reaches at most 10 per mille: the depth of the deepest layer; h without bars
+ *
+ * Without bars, and with just one layer below mid-height, they are the same; else d is the lesser. */
+
 /* A drawn point of the law of a section's concrete.
  * strain: the whole strain that was asked, exactly.
  * stress: the double nearest to the law's exact fraction, of two as near the even one; equal to it where it is whole. In tension zero
@@ -140,7 +148,7 @@ fw_class_answer fw_class(uint16_t fr1, uint16_t fr3);
  * The law's stress at a compression e up to 2000 is fcd e (4000 - e) / 4000000, and above 2000 fcd. In tension it goes straight from
  * (0, 0) to (e1, s1) to (e2, s2) to (e3, s3). Each of these numbers is rounded down to a whole one, the stress is not:
  *   fcd = 17000 fck / 30
- *   s1 = 7 x mean flexural strength x (1600 - d) / 10000, where d is the depth of the deepest layer, or h without bars
+ *   s1 = 7 x mean flexural strength x (1600 - d) / 10000
  *   e1 = 1000 s1 / E, e2 = e1 + 100, e3 = 10000
  *   s2 = 45 feq2 / 100, s3 = 37 feq3 / 100
  *
@@ -169,7 +177,7 @@ typedef struct {
 
 /* The balance of a section with its neutral axis at a depth x from the compressed face, a whole one from 1 to h: the grid.
  *
- * Where 7d > 27x the strain at depth y is 10000 (x - y) / (d - x), else 3500 (x - y) / x, with d as above. It stays an exact fraction.
+ * Where 7 limit > 27 x the strain at depth y is 10000 (x - y) / (limit - x), else 3500 (x - y) / x. It stays an exact fraction.
  * The section is cut in h strips of 1 mm, each with the strain at its middle. A strip's stress is that of the law above, and zero in
  * tension beyond e3. A bar layer's is 200 times the strain, its size at most fyd, which is 100000 fyk / 115 rounded down. The size of
  * each strip's and each bar layer's stress is rounded down to a whole number of kPa, and nothing before it. Bars add their whole force;
@@ -202,9 +210,9 @@ typedef struct {
  * of a section of height h, so 3000 the list of any section. The call takes some 3 KB of stack, that of any other function less than 1. */
 fw_listed fw_depths(const uint8_t *record, size_t len, int64_t *row, size_t words);
 
-/* The shear resistance of a section with bars. d and fyd are as above. As is the area of the layers below mid-height (twice the depth is
- * more than h), N is the axial load in mN, 1000 times the record's. Each quotient is rounded down to a whole number before it is used,
- * and so the share of a tensile load towards minus infinity:
+/* The shear resistance of a section with bars. d and fyd are as above. As is the area of the layers below mid-height, N is the axial load
+ * in mN, 1000 times the record's. Each quotient is rounded down to a whole number before it is used, and so the share of a tensile load
+ * towards minus infinity:
  *   k = 1000 + r, at most 2000, with the largest r such that r x r x d is at most 200000000
  *   c = the largest such that c x c x c x b d is at most 100000000000 As fck; where 50 As > b d, that c x c x c is at most 2000000000 fck
  *   concrete = 12 k c / 100000 + 15 N / (100 b h), at least 0

@@ -23,9 +23,9 @@ typedef struct {
 
 static layout axis_at(const section *s, int64_t x)
 {
-    int64_t d = limit_depth(s);
-    if (7 * d > 27 * x)
-        return (layout){.x = x, .num = MOST_TENSION, .den = d - x};
+    int64_t limit = limit_depth(s);
+    if (7 * limit > 27 * x)
+        return (layout){.x = x, .num = MOST_TENSION, .den = limit - x};
     return (layout){.x = x, .num = MOST_COMPRESSION, .den = x};
 }
 

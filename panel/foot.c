@@ -29,6 +29,7 @@ static void draw_shear(const section *s)
     figure kn = four_digits(shear.amount, 6);
     if (shear.refusal == 0) {
         draw_figure(SHEAR, "Shear resistance", kn.text, " kN");
+        text(SHEAR, FOOT + 69, 16, PLAIN, "with d %u mm", effective_depth(s));
         return;
     }
     draw_figure(SHEAR, "Shear resistance", "none", "");

@@ -56,3 +56,14 @@ unsigned limit_depth(const section *s)
 {
     return s->m > 0 ? s->layers[s->m - 1].depth : s->h;
 }
+
+unsigned effective_depth(const section *s)
+{
+    unsigned areas = 0, moments = 0;
+    for (unsigned j = 0; j < s->m; j++)
+        if (2 * s->layers[j].depth > s->h) {
+            areas += s->layers[j].area;
+            moments += s->layers[j].area * s->layers[j].depth;
+        }
+    return areas > 0 ? moments / areas : s->h;
+}

@@ -39,4 +39,7 @@ const list *list_of(const section *s);
 /* Where the strain of 10 per mille is reached: the depth of the deepest layer, or h without bars. */
 unsigned limit_depth(const section *s);
 
+/* d, with which shear is computed: the centroid of the layers below mid-height, rounded down, or h without bars. */
+unsigned effective_depth(const section *s);
+
 #endif

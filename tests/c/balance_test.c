@@ -1,5 +1,5 @@
-/* fw_imbalance, fw_moment and fw_depths as the panel's program calls them: document 01's figures, several depths, a zero at the last
- * depth, rows too short, just long enough and longer, and each refusal. */
+/* fw_imbalance, fw_moment and fw_depths as the panel's program calls them: document 01's figures, several depths, two layers below
+ * mid-height, a zero at the last depth, rows too short, just long enough and longer, and each refusal. */
 #include "fordwhistle.h"
 
 #include "check.h"
@@ -84,6 +84,15 @@ static void every_depth_is_listed(void)
     CHECK(lists(s, ROOM, zero_among_seven, 7));
 }
 
+/* At 119 the deepest layer still limits the strain: 7 x 460 is just more than 27 x 119. At 148 it does not, and the centroid alone counts,
+ * in s1. */
+static void the_strain_takes_the_deepest_layer_and_s1_the_centroid(void)
+{
+    static const int64_t list[] = {148, 2, 554830765200};
+    CHECK(gives(girder, 119, -117709800, 514890252600));
+    CHECK(lists(girder, ROOM, list, 1));
+}
+
 /* The last depth has no next one: it is listed where its imbalance is zero, and not where that is 1 N less. */
 static void the_last_depth_is_listed_as_a_zero_only(void)
 {
@@ -131,6 +140,7 @@ int main(void)
 {
     the_figures();
     every_depth_is_listed();
+    the_strain_takes_the_deepest_layer_and_s1_the_centroid();
     the_last_depth_is_listed_as_a_zero_only();
     a_row_has_its_length();
     depths_have_their_limits();

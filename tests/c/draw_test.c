@@ -49,12 +49,16 @@ static void every_piece(void)
     CHECK(gives(figures, -9999, -925.043549544010656829593196));
 }
 
-static void the_deepest_layer_is_the_effective_depth(void)
+/* Of no layers, of one below mid-height, and of two, with the centroid at 422.5 and at 51.25. */
+static void the_effective_depth_is_a_centroid(void)
 {
     section s = figures;
     s.h = 400;
     CHECK(gives(s, -126, -4032));
     CHECK(gives(with_layers(s, 50, 100, 250, 3216), -141, -4536));
+    CHECK(gives(girder, -123, -3958));
+    s.h = 101;
+    CHECK(gives(with_layers(s, 51, 3, 52, 1), -162, -5204));
 }
 
 static void no_fibre_help_is_plus_zero(void)
@@ -135,7 +139,7 @@ int main(void)
 {
     the_figures();
     every_piece();
-    the_deepest_layer_is_the_effective_depth();
+    the_effective_depth_is_a_centroid();
     no_fibre_help_is_plus_zero();
     the_first_line_that_holds_refuses();
     a_negative_load_has_its_limit();

@@ -9,6 +9,10 @@ static const section plate = {.b = 1000, .h = 100, .fck = 30, .fyk = 500, .feq2 
 static const section beam = {.b = 400, .h = 600, .fck = 30, .fyk = 500, .feq2 = 2000, .feq3 = 2000, .load = 10000000, .m = 1,
                              .layers = {{540, 3216}}};
 
+/* Two of its layers lie below mid-height: its effective depth is 422, its limit depth 460. */
+static const section girder = {.b = 300, .h = 500, .fck = 30, .fyk = 500, .feq2 = 2000, .feq3 = 2000, .m = 3,
+                               .layers = {{40, 400}, {400, 1000}, {460, 600}}};
+
 static inline section with_layers(section s, uint16_t depth0, uint16_t area0, uint16_t depth1, uint16_t area1)
 {
     s.m = 2;

@@ -80,7 +80,19 @@ static void layers_count_below_mid_height(void)
     CHECK(gives(joist, 84780000));
     CHECK(gives(with_layers(joist, 50, 900, 450, 1200), 84780000));
     CHECK(gives(with_layers(joist, 250, 900, 450, 1200), 84780000));
-    CHECK(gives(with_layers(joist, 251, 900, 450, 1200), 102195000));
+    CHECK(gives(with_layers(joist, 251, 900, 450, 1200), 92710800));
+}
+
+/* The heavier bars are over 2 % of b d, and would not be at the deepest layer's depth. With a spacing of 1 the struts decide. */
+static void every_share_takes_the_centroid(void)
+{
+    section heavy = girder;
+    heavy.layers[1].area = 1600;
+    heavy.layers[2].area = 960;
+    CHECK(gives(girder, 121789200));
+    CHECK(gives(heavy, 135968400));
+    CHECK(gives(with_stirrups(girder, 157, 200), 251416409));
+    CHECK(gives(with_stirrups(girder, 157, 1), 626670000));
 }
 
 /* At 180 mm r is 1054, and k has its limit. In the other r is 500 and c 3000, and neither is rounded. */
@@ -151,6 +163,7 @@ int main(void)
     the_struts_are_the_most();
     bars_count_up_to_2_percent();
     layers_count_below_mid_height();
+    every_share_takes_the_centroid();
     roots_have_a_limit_and_may_be_exact();
     a_tensile_share_goes_towards_minus_infinity();
     tension_leaves_the_fibres();

@@ -1,10 +1,11 @@
-/* What of the sheet's own sums no golden sheet shows: figures at the edges of their rounding, labels that have to give way on both sides. The
- * sheet's files stand here themselves. */
+/* What of the sheet's own sums no golden sheet shows: figures at the edges of their rounding, labels that have to give way on both sides, a
+ * layer just at mid-height. The sheet's files stand here themselves. */
 #include <string.h>
 
 #include "check.h"
 
 #include "../../panel/figure.c"
+#include "../../panel/section.c"
 #include "../../panel/spread.c"
 
 static int is(figure f, const char *text)
@@ -63,11 +64,22 @@ static void labels_give_way(void)
     CHECK(stand(middle, (const double[]){50, 60, 80}));
 }
 
+static void the_effective_depth_is_a_centroid(void)
+{
+    section s = {.h = 101, .m = 2, .layers = {{51, 3}, {52, 1}}};
+    CHECK(effective_depth(&s) == 51);
+    s.h = 102;
+    CHECK(effective_depth(&s) == 52);
+    s.m = 0;
+    CHECK(effective_depth(&s) == 102);
+}
+
 int main(void)
 {
     figures_are_rounded_down();
     resistances_have_four_digits();
     what_is_exact_loses_nothing();
     labels_give_way();
+    the_effective_depth_is_a_centroid();
     return verdict();
 }

@@ -24,6 +24,8 @@ one_record 300 300 30 500 2000 2000 0 0 0 30 402 30 402 90 226 120 226 150 226 1
 # For the lent list, of three depths and of eight. At the second, 20 mm, it is just the tension face that limits the strain.
 one_record 400 78 30 500 2000 2000 0 0 3 >"$made/three_depths.book"
 one_record 400 600 30 500 2000 2000 0 0 8 >"$made/eight_depths.book"
+# Two layers below mid-height. At x 119 the deepest of them limits the strain; at their centroid, d, the compressed face would.
+one_record 300 500 30 500 2000 2000 -117000 0 0 40 400 400 1000 460 600 >"$made/two_layers.book"
 pulled >"$made/pulled.book"
 head -c 75 "$sample" >"$made/cut.book"
 
@@ -145,6 +147,9 @@ check 'every depth of seven' every_depth "$made/several.book" 7
 check 'every depth of 39' every_depth "$made/many.book" 39
 check 'a moment below zero' every_depth "$made/pulled.book" 1
 check 'it is told' shows 'is the moment to read, at x 9 mm: below zero.'
+check 'two layers below mid-height' drawn 0 "$made/two_layers.book"
+check 'the deepest limits the strain' shows 'deepest layer'
+check 'their centroid is told' shows 'with d 422 mm'
 check 'builds with a lent list' env FW_CFLAGS='-Iinclude -Dfw_depths=lent_list' tests/cc "$lent" panel/*.c tests/c/lent.c
 sheet=$lent check 'the least moment later, and twice' golden_sheet 0 tests/sheets/least_later.svg "$made/three_depths.book"
 sheet=$lent check 'more depths than the screen has room for' golden_sheet 0 tests/sheets/more_depths.svg "$made/eight_depths.book"

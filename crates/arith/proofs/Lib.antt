@@ -11,3 +11,4 @@ pub mod Nearest
 pub mod Largest
 pub mod Floor
 pub mod Joined
+pub mod Mean

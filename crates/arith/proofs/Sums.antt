@@ -47,6 +47,11 @@ unfolding sumN
 sum-same f g zero h = refl
 sum-same f g (suc n) h = rw (sum-same f g n (λ i k. h i (omega arith)), h n (omega arith))
 
+pub sum-under : (f g : ℕ → ℕ) (n : ℕ) → ((i : ℕ) → i < n → f i ≤ g i) → sumN n f ≤ sumN n g
+unfolding sumN
+sum-under f g zero h = omega arith
+sum-under f g (suc n) h = omega (arith, sum-under f g n (λ i k. h i (omega arith)), h n (omega arith))
+
 pub run-same : (f g : ℕ → ℕ) (from to : ℕ) → ((i : ℕ) → from ≤ i → i < to → f i ≡ g i) → sumN (to - from) (after from f) ≡ sumN (to - from) (after from g)
 run-same f g from to h = sum-same (after from f) (after from g) (to - from) (λ i k. h (from + i) (omega arith) (omega arith))
 
@@ -68,6 +73,12 @@ pub sum-most : (n B : ℕ) (f : ℕ → ℕ) → ((i : ℕ) → f i ≤ B) → s
 unfolding sumN
 sum-most zero B f h = omega arith
 sum-most (suc n) B f h = omega (arith, sum-most n B f h, h n, NatL.mul-suc B n)
+
+-- no term is larger
+pub sum-holds : (n : ℕ) (f : ℕ → ℕ) (i : ℕ) → i < n → f i ≤ sumN n f
+unfolding sumN
+sum-holds zero f i h = absurd (omega arith)
+sum-holds (suc n) f i h = ⊎-elim (λ e. rw e (omega arith)) (λ k. omega (arith, sum-holds n f i k)) (NatL.eq-or-lt-of-le {n = i} {m = n} (omega arith))
 
 -- ---- signed sums: how large they get; a run, cut in two
 pub signed-most : (n B : ℕ) (f : ℕ → ℤ) → ((i : ℕ) → natAbs (f i) ≤ B) → natAbs (sumZ n f) ≤ B * n

@@ -85,16 +85,16 @@ module _ (s : Section) where
       let g = grants (sections s) (layerRefusal s l) (record { refusal = 0; section = withLayer s l }) is h in
       rw (g .1) (refl, layers-added s l, layers-are (withLayer s l) .0 (added-right s l (g .0)))
 
-  law-is : {x : LawAnswer} → x ≡ lawAnswer s → x .refusal ≡ 0 → x .law ≡ lawOf s
+  pub law-is : {x : LawAnswer} → x ≡ lawAnswer s → x .refusal ≡ 0 → x .law ≡ lawOf s
   law-is is h = LawAnswers.passes s is h .1
 
-  point-is : (e : ℤ) {x : Drawn} → x ≡ drawnAnswer s e → x .refusal ≡ 0 → PointIs s e x
+  pub point-is : (e : ℤ) {x : Drawn} → x ≡ drawnAnswer s e → x .refusal ≡ 0 → PointIs s e x
   unfolding drawnAnswer
   point-is e is h =
       let g = grants points (drawnRefusal s e) (drawn (pointAt (lawOf s) e)) is h in
       (ap (λ (x : Drawn). x .point) (g .1), rw (← is) at (point-near s e (g .0)))
 
-  shear-is : {x : Amount} → x ≡ shearAnswer s → x .refusal ≡ 0 → x .amount ≡ pos (resistance s)
+  pub shear-is : {x : Amount} → x ≡ shearAnswer s → x .refusal ≡ 0 → x .amount ≡ pos (resistance s)
   unfolding shearAnswer
   shear-is is h = ap (λ (x : Amount). x .amount) (grants amounts (shearRefusal s) (answered (pos (resistance s))) is h .1)
 

@@ -9,7 +9,8 @@ use lib.ListN.{length, getD, drop}
 use lib.Signed.{ltZ}
 use Rattle.section.specs.declared.Section.{Section}
 use Rattle.section.specs.Has.{lastDepth}
-use Rattle.forces.specs.Forces.{imbalance, moment}
+use Rattle.law.specs.declared.Law.{Law}
+use Rattle.forces.specs.Forces.{imbalanceUnder, moments, imbalance, moment}
 
 -- strictly opposite signs
 abbrev pub opposite : ℤ → ℤ → Bool
@@ -44,6 +45,10 @@ listTo kind moment (suc n) = listTo kind moment n ++ entryAt kind moment (suc n)
 
 abbrev pub listed : Section → List Entry
 listed s = listTo (kindAt s) (moment s) (lastDepth s)
+
+-- and under any law
+abbrev pub listedUnder : Law → Section → List Entry
+listedUnder l s = listTo (kindOf (imbalanceUnder l s) (lastDepth s)) (moments l s) (lastDepth s)
 
 -- the words of the row, three for each listed depth
 unfoldable pub words : List Entry → List ℤ

@@ -1,5 +1,5 @@
 -- The ranges of a section's depths and of its law's numbers, where it is accepted. Assumes nothing.
-use Prim.Native.Nat.{ℕ, zero, suc, _*_, _-_, _≤_, _<_}
+use Prim.Native.Nat.{ℕ, zero, suc, _*_, _-_, _/_, _≤_, _<_}
 use mathlib.Core.Path.{_≡_, refl}
 use mathlib.Core.Bool.{true, cond, _&&_}
 use mathlib.Core.List.{List, [], _∷_}
@@ -11,8 +11,9 @@ use borrow.Author.Tests.{leb-true}
 use Rattle.arith.specs.Below.{allBelow}
 use Rattle.arith.proofs.Tests.{both, all-below}
 use Rattle.section.specs.declared.Section.{Section}
-use Rattle.section.specs.Section.{layerAt}
 use Rattle.section.specs.Accepted.{Accepted}
+use Rattle.section.specs.Has.{depthAt, steelArea, steelMoment, layersBelow}
+use Rattle.section.proofs.Centroid.{centroid-below, centroid-most, centroid-alone}
 use Rattle.law.specs.Edition.{edition}
 use Rattle.law.specs.Law.{column, flexural, modulus, limitDepth, effectiveDepth, s1Of, e1Of, lawBy, lawOf}
 use Rattle.law.specs.Ranges.{LawIn}
@@ -35,23 +36,34 @@ unfolding modulus allBelow
 modulus-in {s} a = row (29000 ∷ 30500 ∷ 32000 ∷ 33500 ∷ 35000 ∷ 36000 ∷ 37000 ∷ []) 29000 37000 (column (s .fck)) refl (column-in a)
 
 -- ---- depths
--- what holds of h, and of the deepest layer where there is one
-limit-by : (s : Section) (P : ℕ → Type 0) → P (s .h) → (0 < s .count → P (layerAt (s .layers) (s .count - 1) .depth)) → P (limitDepth s)
-unfolding limitDepth
-limit-by s P none = pick (s .count)
-  where
-    pick : (m : ℕ) → (0 < m → P (layerAt (s .layers) (m - 1) .depth)) → P (cond (eqb m 0) (s .h) (layerAt (s .layers) (m - 1) .depth))
-    pick zero some = none
-    pick (suc m) some = rw eqb·suc-zero (some (omega arith))
+-- what holds of two depths, without bars and with them
+by-bars : (P : ℕ → ℕ → Type 0) (m h d e : ℕ) → P h h → (0 < m → P d e) → P (cond (eqb m 0) h d) (cond (eqb m 0) h e)
+by-bars P zero h d e none some = none
+by-bars P (suc m) h d e none some = rw eqb·suc-zero (some (omega arith))
 
-pub limit-in : {s : Section} → Accepted s → (0 < limitDepth s) × (limitDepth s ≤ s .h)
-limit-in {s} a =
-    limit-by s (λ d. (0 < d) × (d ≤ s .h)) (omega (arith, a .sizes .1 .0), omega arith)
-    (λ h. let l = a .bars .0 .each (s .count - 1) (omega arith) in (l .deep, omega (arith, l .inside)))
+module _ {s : Section} (a : Accepted s) where
+  pub limit-in : (0 < limitDepth s) × (limitDepth s ≤ s .h)
+  unfolding limitDepth
+  limit-in =
+      by-bars (λ d e. (0 < d) × (d ≤ s .h)) (s .count) (s .h) (depthAt s (s .count - 1)) 0 (omega (arith, a .sizes .1 .0), omega arith)
+      (λ h. let l = a .bars .0 .each (s .count - 1) (omega arith) in (l .deep, omega (arith, l .inside)))
 
-pub depth-in : {s : Section} → Accepted s → (0 < effectiveDepth s) × (effectiveDepth s ≤ 1000)
-unfolding effectiveDepth
-depth-in a = (limit-in a .0, omega (arith, limit-in a .1, a .sizes .1 .1))
+  -- d lies below mid-height, and no deeper than the limit depth
+  pub depth-below : s .h < 2 * effectiveDepth s
+  unfolding effectiveDepth
+  depth-below = by-bars (λ d e. s .h < 2 * d) (s .count) (s .h) (steelMoment s / steelArea s) 0 (omega (arith, a .sizes .1 .0)) (centroid-below a)
+
+  pub depth-most : effectiveDepth s ≤ limitDepth s
+  unfolding effectiveDepth limitDepth
+  depth-most = by-bars (λ d e. d ≤ e) (s .count) (s .h) (steelMoment s / steelArea s) (depthAt s (s .count - 1)) (omega arith) (centroid-most a)
+
+  pub depth-in : (0 < effectiveDepth s) × (effectiveDepth s ≤ 1000)
+  depth-in = (omega (arith, depth-below), omega (arith, depth-most, limit-in .1, a .sizes .1 .1))
+
+  -- with one layer below mid-height, or without bars, both are one depth
+  pub one-depth : layersBelow s ≤ 1 → effectiveDepth s ≡ limitDepth s
+  unfolding effectiveDepth limitDepth
+  one-depth one = by-bars (λ d e. d ≡ e) (s .count) (s .h) (steelMoment s / steelArea s) (depthAt s (s .count - 1)) refl (λ h. centroid-alone a h one)
 
 -- ---- the whole numbers
 pub s1-product : {s : Section} → Accepted s → (25900 * 600 ≤ 7 * flexural (s .fck) * (1600 - effectiveDepth s)) × (7 * flexural (s .fck) * (1600 - effectiveDepth s) ≤ 47600 * 1600)

@@ -7,6 +7,7 @@ use lib.ListN.{getD}
 use Rattle.arith.specs.Answers.{unlessRefused}
 use Rattle.section.specs.declared.Section.{Section}
 use Rattle.section.specs.Section.{layerAt}
+use Rattle.section.specs.Has.{steelArea, steelMoment}
 use Rattle.section.specs.Refusal.{sectionRefusal}
 use Rattle.law.specs.declared.Law.{Law}
 use Rattle.law.specs.declared.LawAnswer.{LawAnswer}
@@ -29,9 +30,10 @@ modulus fck = getD (29000 ∷ 30500 ∷ 32000 ∷ 33500 ∷ 35000 ∷ 36000 ∷ 
 unfoldable pub limitDepth : Section → ℕ
 limitDepth s = cond (eqb (s .count) 0) (s .h) (layerAt (s .layers) (s .count - 1) .depth)
 
--- the effective depth d, for s1 and for shear
+-- the effective depth d, for s1 and for shear ([2] of document 02): the centroid of the layers below mid-height, the sum of area times depth over the
+-- sum of areas, rounded down; or h without bars
 unfoldable pub effectiveDepth : Section → ℕ
-effectiveDepth s = limitDepth s
+effectiveDepth s = cond (eqb (s .count) 0) (s .h) (steelMoment s / steelArea s)
 
 -- ---- the whole numbers
 unfoldable pub s1Of : ℕ → ℕ → ℕ

@@ -50,12 +50,16 @@ fn limit_depth(section: Section) -> u32
     deepest.depth as u32
 }
 
-// d, for s1 and for shear.
+// d, for s1 and for shear: the centroid of the layers below mid-height, or h without bars.
 fn effective_depth(section: Section) -> u32
     requires { ⌜ Accepted section ⌝ }
     ensures { λ r. ⌜ r ≡ effectiveDepth section ⌝ }
 {
-    limit_depth(section)
+    if section.count == 0 {
+        return section.h as u32;
+    }
+    let steel = section.steel();
+    (steel.moment / steel.area) as u32
 }
 
 // The whole numbers of an accepted section's law.
@@ -64,6 +68,7 @@ fn numbers(section: Section) -> Law
     ensures { λ r. ⌜ r ≡ lawOf section ⌝ }
 {
     let column = ((section.fck - 20) / 5) as usize;
+    let limit = limit_depth(section);
     let d = effective_depth(section);
     let s1 = 7 * FLEXURAL[column] * (1600 - d) / 10000;
     let e1 = 1000 * s1 / MODULUS[column];
@@ -77,7 +82,7 @@ fn numbers(section: Section) -> Law
         e3: 10000,
         fyd: section.fyk as u32 * 1000 * 100 / 115,
         strain: 10000,
-        limit: limit_depth(section),
+        limit: limit,
         ratio: 27,
         d: d,
         drawn: 10000,

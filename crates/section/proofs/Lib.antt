@@ -5,3 +5,4 @@ pub mod Rising
 pub mod Accepted
 pub mod Inserted
 pub mod Load
+pub mod Centroid

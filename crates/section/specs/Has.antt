@@ -34,6 +34,10 @@ momentBelow s j = areaBelow s j * depthAt s j
 unfoldable pub steelMoment : Section → ℕ
 steelMoment s = sumN (s .count) (momentBelow s)
 
+-- how many they are
+abbrev pub layersBelow : Section → ℕ
+layersBelow s = sumN (s .count) (λ j. cond (belowMid s (depthAt s j)) 1 0)
+
 -- the axial load, in mN
 abbrev pub loadOf : Section → ℤ
 loadOf s = pos 1000 *ℤ s .load

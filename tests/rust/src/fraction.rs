@@ -64,6 +64,10 @@ impl Fraction {
         Fraction::new((self.num - whole * self.den).abs(), self.den)
     }
 
+    pub fn rounded_down(self) -> i128 {
+        self.num.div_euclid(self.den)
+    }
+
     pub fn is_whole(self) -> bool {
         self.num % self.den == 0
     }

@@ -6,3 +6,4 @@ pub mod lent;
 pub mod random;
 pub mod rules;
 pub mod sections;
+pub mod steel;

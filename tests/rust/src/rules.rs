@@ -10,12 +10,13 @@ mod shear;
 mod writer;
 
 pub use balance::{
-    amounts, area, exact, list_of, listed, rounded, write, Amount, Axis, List, Listed, Sums,
+    amounts, area, exact, list_of, listed, rounded, rounded_by, write, Amount, Axis, List, Listed,
+    Sums,
 };
 pub use book::{book, lines, record, Book, BookAnswer, Bound, Lines, RecordAnswer, LINES};
 pub use class::{class, Class, LETTERS, STEPS};
 pub use drawn::{draw, stress_drawn, Drawn, Point};
 pub use law::{Law, TABLE};
-pub use section::{Layer, Section};
+pub use section::{bars, centroid, Layer, Section};
 pub use shear::{c, shear, unlimited_c, unlimited_k, Shear};
 pub use writer::{add_layer, book_of, records, write_book, Parts, Written};

@@ -146,6 +146,35 @@ pub fn balanced(random: &mut Random, h: u16) -> Section {
     section
 }
 
+/// Makes the first layer one at mid-height, or half a mm above it: it is not below it.
+fn start_at_mid_height(section: &mut Section, random: &mut Random) {
+    let layer = Layer {
+        depth: section.h / 2,
+        area: number(random, 1, 1000),
+    };
+    section.layers.retain(|below| below.depth > layer.depth);
+    if (1..8).contains(&section.layers.len()) {
+        section.layers.insert(0, layer);
+    }
+}
+
+/// What makes steel of a section that chance hardly makes: beside a layer at mid-height, without one above it, and with a centroid at a
+/// whole depth, as that of equal areas often is.
+const STEELS: [fn(&mut Section, &mut Random); 3] = [
+    start_at_mid_height,
+    |section, _| section.layers = section.steel(),
+    |section, _| set_areas(section, |_| 1000),
+];
+
+/// An accepted section with up to two of these.
+pub fn steeled(random: &mut Random) -> Section {
+    let mut section = accepted(random);
+    for _ in 0..random.within(0..=2) {
+        random.pick(&STEELS)(&mut section, random);
+    }
+    section
+}
+
 /// What lets each number of a section's shear decide, and brings it to its limit or to a whole number, where chance hardly does.
 const SHEARS: [fn(&mut Section, &mut Random); 7] = [
     // The axial share is then a whole number of kPa, or next to one where a part of the load's last N is lost.
@@ -159,38 +188,40 @@ const SHEARS: [fn(&mut Section, &mut Random); 7] = [
         section.spacing = number(random, 50, 500);
     },
     |section, _| set_areas(section, |area| area % 500 + 1),
-    // A layer at mid-height, or half a mm above it, is not below it.
-    |section, random| {
-        let layer = Layer {
-            depth: section.h / 2,
-            area: number(random, 1, 1000),
-        };
-        section.layers.retain(|below| below.depth > layer.depth);
-        if (1..8).contains(&section.layers.len()) {
-            section.layers.insert(0, layer);
-        }
-    },
-    // As is 2 % of b d, or next to it.
+    start_at_mid_height,
+    // As is 2 % of b d, or next to it; or of b times a greater depth, as the deepest layer's may be.
     |section, random| {
         section.b = section.b.next_multiple_of(50);
-        let d = section.effective_depth();
-        let area = section.b / 50 * d + 1 - random.pick(&[0, 1, 2]);
-        leave_one(section, Layer { depth: d, area });
+        let depth = section.effective_depth();
+        let greater = number(random, depth, section.h);
+        let area = section.b / 50 * random.pick(&[depth, greater]) + 1 - random.pick(&[0, 1, 2]);
+        centre(section, random, Layer { depth, area });
     },
     // Both roots are exact: r is 625 or 500, c 1000, 2000 or 3000.
     |section, random| {
         (section.b, section.h, section.fck) = (2000, 1000, 20);
         let depth = random.pick(&[512, 800]);
         let area = random.pick(&[1, 8, 27]) * depth;
-        leave_one(section, Layer { depth, area });
+        centre(section, random, Layer { depth, area });
     },
 ];
 
-/// Puts one layer in the place of all; a section without bars stays without.
-fn leave_one(section: &mut Section, layer: Layer) {
-    if !section.layers.is_empty() {
-        section.layers = vec![layer];
+/// Puts this layer in the place of all, or two that share its area, one as far above its depth as the other below. Of an odd area the lower
+/// has more, so that d is that depth. A section without bars stays without.
+fn centre(section: &mut Section, random: &mut Random, layer: Layer) {
+    if section.layers.is_empty() {
+        return;
     }
+    let Layer { depth, area } = layer;
+    let most = (depth - section.h / 2 - 1).min(section.h - 1 - depth);
+    let at = |depth, area| Layer { depth, area };
+    section.layers = match number(random, 0, most) {
+        0 => vec![layer],
+        apart => vec![
+            at(depth - apart, area / 2),
+            at(depth + apart, area - area / 2),
+        ],
+    };
 }
 
 /// An accepted section with up to four of these.

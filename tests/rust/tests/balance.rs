@@ -1,8 +1,9 @@
 //! `fw_imbalance`, `fw_moment` and `fw_depths` held to document 01's balance.
 use fordwhistle_tests::held::Held;
 use fordwhistle_tests::random::Random;
-use fordwhistle_tests::rules::{self, List, Section};
+use fordwhistle_tests::rules::{self, Axis, Law, List, Section};
 use fordwhistle_tests::sections;
+use fordwhistle_tests::steel;
 use std::collections::BTreeSet;
 use std::sync::LazyLock;
 
@@ -173,6 +174,43 @@ fn the_sections_reach_the_ends_of_their_ranges() {
     assert_eq!(ends(|section| section.feq3.into()), (0, 20_000));
     assert_eq!(ends(|section| section.load), (-10_000_000, 10_000_000));
     assert_eq!(ends(|section| section.layers.len() as i32), (0, 8));
+}
+
+fn sections() -> impl Iterator<Item = &'static Section> {
+    ACCEPTED.iter().map(|(section, _)| section)
+}
+
+#[test]
+fn the_sections_reach_every_kind_of_steel() {
+    steel::assert_every_kind(sections());
+}
+
+/// Whether another depth or kind is listed by another effective depth or limit. A wrong program may have its moments from elsewhere.
+fn listed_otherwise(section: &Section, d: u16, limit: u16) -> bool {
+    let list = |d, limit| {
+        let law = Law::by(section, d);
+        let imbalance = |x| rules::rounded_by(section, &law, &Axis::by(limit, x)).imbalance;
+        let imbalances: Vec<i64> = (1..=section.h).map(imbalance).collect();
+        rules::listed(&imbalances, |_| 0)
+    };
+    list(d, limit) != list(section.effective_depth(), section.limit_depth())
+}
+
+#[test]
+fn every_wrong_effective_depth_would_show_in_many_lists() {
+    steel::assert_errors_show(sections(), 30, |section, wrong| {
+        listed_otherwise(section, wrong, section.limit_depth())
+    });
+}
+
+#[test]
+fn a_limit_at_the_centroid_would_show_in_many_lists() {
+    let shows = |section: &&Section| {
+        let d = section.effective_depth();
+        listed_otherwise(section, d, d)
+    };
+    let shown = sections().filter(shows).count();
+    assert!(shown > 30, "{shown}");
 }
 
 /// The library is x86-64 code, so only there can a Rust program link it.

@@ -3,6 +3,7 @@ use fordwhistle_tests::held::Held;
 use fordwhistle_tests::random::Random;
 use fordwhistle_tests::rules::{self, Drawn, Law, Section, TABLE};
 use fordwhistle_tests::sections;
+use fordwhistle_tests::steel;
 use std::collections::BTreeSet;
 use std::iter::repeat_with;
 
@@ -16,7 +17,7 @@ fn strains() -> impl Iterator<Item = i32> {
 
 fn accepted() -> Vec<Section> {
     let mut random = Random::new(1);
-    (0..300).map(|_| sections::accepted(&mut random)).collect()
+    (0..300).map(|_| sections::steeled(&mut random)).collect()
 }
 
 fn each_strain(take: Take) {
@@ -36,12 +37,13 @@ fn each_damaged(take: Take) {
     }
 }
 
-/// A record of two layers at each limit of the load, with every value in each of its places of 16 bits.
+/// A record of two layers below mid-height at each limit of the load, with every value in each of its places of 16 bits.
 fn each_swept(take: Take) {
     let mut random = Random::new(3);
     for load in [-10_000_000, 10_000_000] {
         let mut sections = repeat_with(|| sections::accepted(&mut random));
-        let mut section = sections.find(|section| section.layers.len() == 2).unwrap();
+        let two = |section: &Section| section.layers.len() == 2 && section.steel().len() == 2;
+        let mut section = sections.find(two).unwrap();
         section.load = load;
         let record = section.record();
         for at in (0..record.len()).step_by(2) {
@@ -140,6 +142,21 @@ fn the_sections_are_accepted_with_every_concrete_every_count_of_layers_and_no_fi
     assert!(concretes.into_iter().eq(TABLE.map(|concrete| concrete.fck)));
     assert!(counts.into_iter().eq(0..=8));
     assert_eq!(helps.len(), 4);
+}
+
+#[test]
+fn the_sections_reach_every_kind_of_steel() {
+    steel::assert_every_kind(accepted().iter());
+}
+
+/// By the stress at -e1, which is s1.
+#[test]
+fn every_wrong_effective_depth_would_show_in_many_laws() {
+    steel::assert_errors_show(accepted().iter(), 30, |section, wrong| {
+        let (strain, stress) = Law::of(section).corners[2];
+        let (num, den) = Law::by(section, wrong).stress(strain, 1);
+        num != stress * den
+    });
 }
 
 /// The library is x86-64 code, so only there can a Rust program link it.

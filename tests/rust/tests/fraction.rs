@@ -78,5 +78,6 @@ fn a_sum_is_exact() {
 fn a_fraction_is_held_to_whole_numbers() {
     let below = Fraction::new(-7, 2);
     assert!(below > -4 && below < -3 && below.times(-4) == 14);
+    assert!(below.rounded_down() == -4 && below.times(-2).rounded_down() == 7);
     assert!(below.apart(-3) < 1 && below.apart(-3).times(2) == 1 && below.apart(-5).times(2) == 3);
 }

@@ -189,7 +189,7 @@ const ERRORS: [Error; 13] = [
     ("the deepest layer lies below mid-height", |case, out| {
         with(case, out, |section, layer| {
             let added = section.with_layer(layer);
-            added.filter(|added| added.below_mid_height(added.effective_depth()))
+            added.filter(|added| added.below_mid_height(added.limit_depth()))
         })
     }),
     ("the section is tested 7 to 13", |case, out| {

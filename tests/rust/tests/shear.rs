@@ -3,6 +3,7 @@ use fordwhistle_tests::held::Held;
 use fordwhistle_tests::random::Random;
 use fordwhistle_tests::rules::{self, Amount, Section, Shear};
 use fordwhistle_tests::sections;
+use fordwhistle_tests::steel;
 use std::cmp::Ordering;
 use std::collections::BTreeSet;
 
@@ -79,7 +80,7 @@ fn t(section: &Section) -> i128 {
 
 /// As.
 fn bars(section: &Section) -> i128 {
-    section.bars(|depth| section.below_mid_height(depth))
+    rules::bars(&section.steel())
 }
 
 /// Numerator and denominator of the axial share.
@@ -88,15 +89,21 @@ fn axial(section: &Section) -> (i128, i128) {
     (15_000 * i128::from(section.load), 100 * b * h)
 }
 
+/// The numbers by the deepest layer's depth.
+fn deepest(section: &Section) -> Shear {
+    Shear::by(section, section.limit_depth())
+}
+
 /// What a wrong program makes of the right numbers.
 type Error = (&'static str, fn(&Section, &mut Shear));
 
-const ERRORS: [Error; 22] = [
+const ERRORS: [Error; 29] = [
     ("every layer is below mid-height", |section, shear| {
-        shear.c = rules::c(section, |_| true)
+        shear.c = rules::c(rules::bars(&section.layers), shear.bd, fck(section))
     }),
     ("a layer at mid-height is below it", |section, shear| {
-        shear.c = rules::c(section, |depth| 2 * depth >= section.h)
+        let layers = steel::down_from_mid_height(section);
+        shear.c = rules::c(rules::bars(&layers), shear.bd, fck(section))
     }),
     ("k has no limit", |section, shear| {
         shear.k = rules::unlimited_k(d(section))
@@ -160,6 +167,32 @@ const ERRORS: [Error; 22] = [
         let fck = fck(section);
         shear.struts = (700 - 5 * fck).max(500) * 2000 * fck * 9 * shear.bd / 60_000
     }),
+    ("k goes by the deepest layer", |section, shear| {
+        shear.k = deepest(section).k
+    }),
+    ("c goes by the deepest layer", |section, shear| {
+        shear.c = deepest(section).c
+    }),
+    (
+        "the limit of c goes by the deepest layer",
+        |section, shear| {
+            if 50 * bars(section) <= deepest(section).bd {
+                shear.c = rules::unlimited_c(bars(section), shear.bd, fck(section))
+            }
+        },
+    ),
+    ("the fibres go by the deepest layer", |section, shear| {
+        shear.fibres = deepest(section).fibres
+    }),
+    ("b d goes by the deepest layer", |section, shear| {
+        shear.bd = deepest(section).bd
+    }),
+    ("the stirrups go by the deepest layer", |section, shear| {
+        shear.stirrups = deepest(section).stirrups
+    }),
+    ("the struts go by the deepest layer", |section, shear| {
+        shear.struts = deepest(section).struts
+    }),
 ];
 
 #[test]
@@ -176,16 +209,32 @@ fn every_error_would_show_in_many_sections() {
     }
 }
 
+#[test]
+fn every_wrong_effective_depth_would_show_in_many_sections() {
+    let sections: Vec<Section> = accepted().collect();
+    steel::assert_errors_show(sections.iter(), 100, |section, wrong| {
+        Shear::by(section, wrong).resistance() != Shear::of(section).resistance()
+    });
+}
+
+#[test]
+fn the_sections_reach_every_kind_of_steel() {
+    let sections: Vec<Section> = accepted().collect();
+    steel::assert_every_kind(sections.iter());
+}
+
 /// No amount shows whether c has its limit at 50 As = b d, nor what s is where Asw is 0.
 #[test]
-fn the_sections_reach_the_limit_on_bars_and_stirrups_without_area() {
+fn the_sections_reach_the_limit_on_bars_in_one_layer_and_in_several_and_stirrups_without_area() {
     let (mut limits, mut stirrups) = (BTreeSet::new(), BTreeSet::new());
     for (section, shear) in numbered() {
-        limits.insert((50 * bars(&section)).cmp(&shear.bd));
+        let several = section.steel().len() > 1;
+        limits.insert((several, (50 * bars(&section)).cmp(&shear.bd)));
         stirrups.insert((section.asw == 0, section.spacing == 0));
     }
     let sides = [Ordering::Less, Ordering::Equal, Ordering::Greater];
-    assert_eq!(limits, BTreeSet::from(sides));
+    let every = [false, true].map(|several| sides.map(|side| (several, side)));
+    assert!(limits.iter().eq(every.as_flattened()));
     assert_eq!(
         stirrups,
         BTreeSet::from([(false, false), (true, false), (true, true)])

@@ -175,13 +175,13 @@ fn the_bounds_and_the_strips_decide_thousands_of_the_aimed_signs() {
         }
     }
     for (sign, far, least) in [
-        (0, "at zero", 4927),
-        (-1, "at zero", 7741),
-        (1, "at zero", 7661),
-        (-1, "open", 36_095),
-        (1, "open", 27_976),
-        (-1, "by bounds", 1_782_217),
-        (1, "by bounds", 3_205_441),
+        (0, "at zero", 4500),
+        (-1, "at zero", 7500),
+        (1, "at zero", 7500),
+        (-1, "open", 35_000),
+        (1, "open", 27_000),
+        (-1, "by bounds", 1_700_000),
+        (1, "by bounds", 3_000_000),
     ] {
         let depths = reached[&(sign, far)];
         assert!(depths >= least, "{depths} {far} of sign {sign}");
@@ -227,7 +227,7 @@ fn reach(reached: &mut BTreeMap<Piece, Reached>, section: &Section, x: u16) {
 #[test]
 fn the_strips_reach_each_piece_rising_and_falling_in_both_strains() {
     let mut reached = BTreeMap::new();
-    for section in sections().step_by(10) {
+    for section in sections().step_by(4) {
         (1..=section.h).for_each(|x| reach(&mut reached, &section, x));
     }
     for (slope, bent) in [(10_000, 150), (3500, 500)] {

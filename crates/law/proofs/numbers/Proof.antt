@@ -9,30 +9,33 @@ use Rattle.law.proofs.numbers.Tie as tie
 
 mul-s1-2 : tie.Need-mul-s1-2
 unfolding flexural
-mul-s1-2 c = omega (arith, flexural-in (c .before .before .pre) .1)
+mul-s1-2 c = omega (arith, flexural-in (c .before .before .before .pre) .1)
 
 sub-s1 : tie.Need-sub-s1
-sub-s1 c = omega (arith, c .effective-depth .ensures, depth-in (c .before .before .pre) .1)
+sub-s1 c = omega (arith, c .effective-depth .ensures, depth-in (c .before .before .before .pre) .1)
 
 mul-s1-3 : tie.Need-mul-s1-3
 unfolding flexural
-mul-s1-3 c = rw (c .effective-depth .ensures) (omega (arith, s1-product (c .before .before .pre) .1))
+mul-s1-3 c = rw (c .effective-depth .ensures) (omega (arith, s1-product (c .before .before .before .pre) .1))
 
 mul-e1 : tie.Need-mul-e1
 unfolding flexural s1Of
-mul-e1 c = rw (c .effective-depth .ensures) (omega (arith, s1-in (c .before .before .pre) .1))
+mul-e1 c = rw (c .effective-depth .ensures) (omega (arith, s1-in (c .before .before .before .pre) .1))
 
 div-e1 : tie.Need-div-e1
 unfolding modulus
-div-e1 c = omega (arith, modulus-in (c .before .before .pre) .0)
+div-e1 c = omega (arith, modulus-in (c .before .before .before .pre) .0)
 
-add-e2 : tie.Need-add-t19
+add-e2 : tie.Need-add-t20
 unfolding flexural modulus s1Of e1Of
-add-e2 c = rw (c .before .effective-depth .ensures) (omega (arith, e1-in (c .before .before .before .pre) .1))
+add-e2 c = rw (c .before .effective-depth .ensures) (omega (arith, e1-in (c .before .before .before .before .pre) .1))
 
 returns : tie.Need-returns
 unfolding flexural modulus s1Of e1Of lawBy edition
-returns c = rw (c .before .before .before .before .before .effective-depth .ensures, c .limit-depth .ensures)
+returns c =
+    let e = c .before .before .before .before in
+    let s = e .before .before .before .args .section in
+    λ i. lawBy (s .fck) (e .effective-depth .ensures i) (e .before .limit-depth .ensures i) (s .fyk) (s .feq2) (s .feq3)
 
 pub numbers-spec : {M : Type 1} → statement M
 numbers-spec =
@@ -40,6 +43,7 @@ numbers-spec =
     (tie.spec
     (λ c. search needs)
     (λ c. search needs)
+    (λ c κs. search needs)
     (λ c κs. search needs)
     (λ c. search needs)
     (λ c. search needs)
@@ -61,5 +65,4 @@ numbers-spec =
     (λ c. search needs)
     (λ c. search needs)
     (λ c. search needs)
-    (λ c κs. search needs)
     returns)

@@ -1,7 +1,7 @@
 //! Strains, strips and balance. Each strip and bar layer keeps its exact stress; it is rounded where the rules' sums are asked for, and the
 //! exact sums are made of the same.
 use super::law::Law;
-use super::section::Section;
+use super::section::{bars, Section};
 use crate::fraction::Fraction;
 
 /// `fw_amount`, as the header lays it out.
@@ -55,9 +55,14 @@ pub struct Axis {
 impl Axis {
     /// Of an accepted section at a depth on the grid.
     pub fn of(section: &Section, x: u16) -> Axis {
-        let [d, x] = [section.effective_depth(), x].map(i64::from);
-        let (slope, over) = match 7 * d > 27 * x {
-            true => (10_000, d - x),
+        Axis::by(section.limit_depth(), x)
+    }
+
+    /// Where the strain is 10 per mille at this depth.
+    pub fn by(limit: u16, x: u16) -> Axis {
+        let [limit, x] = [limit, x].map(i64::from);
+        let (slope, over) = match 7 * limit > 27 * x {
+            true => (10_000, limit - x),
             false => (3500, x),
         };
         Axis { x, slope, over }
@@ -69,16 +74,15 @@ impl Axis {
     }
 }
 
-/// Every strip and bar layer of an accepted section, with the neutral axis at depth x.
-fn shares(section: &Section, x: u16) -> Vec<Share> {
-    let (law, axis) = (Law::of(section), Axis::of(section, x));
+/// Every strip and bar layer of an accepted section, by this law and this neutral axis.
+fn shares(section: &Section, law: &Law, axis: &Axis) -> Vec<Share> {
     let [b, h] = [section.b, section.h].map(i64::from);
     let share = |area, twice, stress: fn(&Law, i64, i64) -> (i64, i64)| {
         let (p, q) = axis.strain(twice);
         Share {
             area,
             lever: h - twice,
-            stress: stress(&law, p, q),
+            stress: stress(law, p, q),
         }
     };
     let strips = (0..h).map(|strip| share(b, 2 * strip + 1, Law::stress));
@@ -94,11 +98,16 @@ fn shares(section: &Section, x: u16) -> Vec<Share> {
 
 /// The rules' sums of an accepted section at a depth on the grid: a division for each strip and bar layer.
 pub fn rounded(section: &Section, x: u16) -> Sums<i64> {
+    rounded_by(section, &Law::of(section), &Axis::of(section, x))
+}
+
+/// The same by another law or another neutral axis, for a test to put them wrong.
+pub fn rounded_by(section: &Section, law: &Law, axis: &Axis) -> Sums<i64> {
     let mut sums = Sums {
         imbalance: -1000 * i64::from(section.load),
         moment: 0,
     };
-    for share in shares(section, x) {
+    for share in shares(section, law, axis) {
         let (num, den) = share.stress;
         let force = share.area * (num / den);
         sums.imbalance += force;
@@ -109,7 +118,7 @@ pub fn rounded(section: &Section, x: u16) -> Sums<i64> {
 
 /// The exact sums: the same with unrounded stresses.
 pub fn exact(section: &Section, x: u16) -> Sums<Fraction> {
-    let shares = shares(section, x);
+    let shares = shares(section, &Law::of(section), &Axis::of(section, x));
     let force = |share: &Share| Fraction::from(share.stress).times(share.area.into());
     let load = Fraction::new(-1000 * i128::from(section.load), 1);
     Sums {
@@ -123,7 +132,7 @@ pub fn exact(section: &Section, x: u16) -> Sums<Fraction> {
 
 /// The area of concrete and bars: rounding may take one kPa from all of it.
 pub fn area(section: &Section) -> i128 {
-    i128::from(section.b) * i128::from(section.h) + section.bars(|_| true)
+    i128::from(section.b) * i128::from(section.h) + bars(&section.layers)
 }
 
 /// Listed depths: x, kind, moment.

@@ -39,11 +39,16 @@ pub struct Law {
 impl Law {
     /// The law of an accepted section.
     pub fn of(section: &Section) -> Law {
+        Law::by(section, section.effective_depth())
+    }
+
+    /// The same with another effective depth, for a test to put it wrong.
+    pub fn by(section: &Section, d: u16) -> Law {
         let concrete = TABLE
             .iter()
             .find(|concrete| concrete.fck == section.fck)
             .expect("an accepted section's concrete is in the table");
-        let s1 = 7 * concrete.flexural * (1600 - i64::from(section.effective_depth())) / 10_000;
+        let s1 = 7 * concrete.flexural * (1600 - i64::from(d)) / 10_000;
         let e1 = 1000 * s1 / concrete.modulus;
         let s2 = 45 * i64::from(section.feq2) / 100;
         let s3 = 37 * i64::from(section.feq3) / 100;

@@ -1,5 +1,6 @@
 //! What a section is, what is refused of it, and its record.
 use super::law::TABLE;
+use crate::fraction::Fraction;
 use std::ops::RangeInclusive;
 
 #[derive(Debug, Clone, Copy, PartialEq, Eq)]
@@ -137,18 +138,37 @@ impl Section {
         2 * u32::from(depth) > u32::from(self.h)
     }
 
-    /// The area of the layers at depths that count.
-    pub fn bars(&self, counts: impl Fn(u16) -> bool) -> i128 {
-        let counting = self.layers.iter().filter(|layer| counts(layer.depth));
-        counting.map(|layer| i128::from(layer.area)).sum()
+    /// The layers below mid-height, which are one steel.
+    pub fn steel(&self) -> Vec<Layer> {
+        let below = |layer: &Layer| self.below_mid_height(layer.depth);
+        self.layers.iter().copied().filter(below).collect()
     }
 
     fn depths(&self) -> impl Iterator<Item = u16> + '_ {
         self.layers.iter().map(|layer| layer.depth)
     }
 
-    /// d: the depth of the deepest layer, or h without bars.
+    /// d of an accepted section: the centroid of its steel, rounded, or h without bars.
     pub fn effective_depth(&self) -> u16 {
+        match self.layers.is_empty() {
+            true => self.h,
+            false => centroid(&self.steel()).rounded_down() as u16,
+        }
+    }
+
+    /// Where the strain is 10 per mille: the depth of the deepest layer, or h without bars.
+    pub fn limit_depth(&self) -> u16 {
         self.depths().max().unwrap_or(self.h)
     }
+}
+
+/// The area of some layers.
+pub fn bars(layers: &[Layer]) -> i128 {
+    layers.iter().map(|layer| i128::from(layer.area)).sum()
+}
+
+/// Their centroid, exactly. There has to be one.
+pub fn centroid(layers: &[Layer]) -> Fraction {
+    let moment = |layer: &Layer| i128::from(layer.area) * i128::from(layer.depth);
+    Fraction::new(layers.iter().map(moment).sum(), bars(layers))
 }

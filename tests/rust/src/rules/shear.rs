@@ -2,7 +2,7 @@
 //! can put one of them wrong.
 use super::balance::Amount;
 use super::law::Law;
-use super::section::Section;
+use super::section::{bars, Section};
 
 /// k and c in thousandths, axial and fibres in kPa, b d in mm², stirrups and struts in mN.
 #[derive(Debug, Clone, Copy)]
@@ -19,13 +19,18 @@ pub struct Shear {
 impl Shear {
     /// Of an accepted section with bars.
     pub fn of(section: &Section) -> Shear {
-        let [b, h, d] = [section.b, section.h, section.effective_depth()].map(i128::from);
+        Shear::by(section, section.effective_depth())
+    }
+
+    /// The same with another effective depth, for a test to put it wrong.
+    pub fn by(section: &Section, d: u16) -> Shear {
+        let [b, h, d] = [section.b, section.h, d].map(i128::from);
         let [fck, feq3, asw, s] =
             [section.fck, section.feq3, section.asw, section.spacing].map(i128::from);
         let (bd, load) = (b * d, 1000 * i128::from(section.load));
         Shear {
             k: unlimited_k(d).min(2000),
-            c: c(section, |depth| section.below_mid_height(depth)),
+            c: c(bars(&section.steel()), bd, fck),
             axial: (15 * load).div_euclid(100 * b * h),
             fibres: 12 * feq3 / 100 * (1600 - d).max(1000) / 1000,
             bd,
@@ -53,10 +58,9 @@ pub fn unlimited_k(d: i128) -> i128 {
     1000 + largest(|r| r * r * d <= 200_000_000)
 }
 
-/// c where the layers at depths that count are As. It rises with As over b d, so its limit is the root at 2 %.
-pub fn c(section: &Section, counts: impl Fn(u16) -> bool) -> i128 {
-    let [b, d, fck] = [section.b, section.effective_depth(), section.fck].map(i128::from);
-    unlimited_c(section.bars(counts), b * d, fck).min(unlimited_c(1, 50, fck))
+/// c, which rises with As over b d, so that its limit is the root at 2 %.
+pub fn c(bars: i128, bd: i128, fck: i128) -> i128 {
+    unlimited_c(bars, bd, fck).min(unlimited_c(1, 50, fck))
 }
 
 /// c before its limit.
