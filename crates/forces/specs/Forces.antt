@@ -13,8 +13,8 @@ use Rattle.law.specs.Stress.{Stress, rounded, bar}
 use Rattle.strips.specs.Strips.{Scale, middle, strip}
 
 -- ---- strains (3.1.1 of document 002)
--- where 7d > 27x the strain at depth y is 10000 (x - y) / (d - x), else 3500 (x - y) / x: 27, 10000 and this d are the law's ratio, strain and limit; a position
--- is twice a depth
+-- where 7d > 27x the strain at depth y is 10000 (x - y) / (d - x), else 3500 (x - y) / x: 27, 10000 and this d are the law's ratio, strain and limit; a
+-- position is twice a depth
 unfoldable pub strainScale : Law → ℕ → Scale
 strainScale l x =
     cond (ltb (l .ratio * x) (7 * l .limit))

@@ -175,13 +175,13 @@ fn the_bounds_and_the_strips_decide_thousands_of_the_aimed_signs() {
         }
     }
     for (sign, far, least) in [
-        (0, "at zero", 4500),
-        (-1, "at zero", 7500),
-        (1, "at zero", 7500),
-        (-1, "open", 35_000),
-        (1, "open", 27_000),
-        (-1, "by bounds", 1_700_000),
-        (1, "by bounds", 3_000_000),
+        (0, "at zero", 4927),
+        (-1, "at zero", 7710),
+        (1, "at zero", 7690),
+        (-1, "open", 36_093),
+        (1, "open", 27_974),
+        (-1, "by bounds", 1_782_526),
+        (1, "by bounds", 3_205_138),
     ] {
         let depths = reached[&(sign, far)];
         assert!(depths >= least, "{depths} {far} of sign {sign}");

@@ -21,6 +21,9 @@ centroid c =
     let e = c .before .before in
     rw (ne-eqb (e .before .before .args .section .count) 0 (e .if1 .left), c .before .steel .ensures .0, c .before .steel .ensures .1)
 
+returns-2 : tie.Need-returns-2
+returns-2 c = omega (arith, centroid c)
+
 pub effective-depth-spec : {M : Type 1} → statement M
 effective-depth-spec =
     tie.close
@@ -30,4 +33,4 @@ effective-depth-spec =
     (λ c κs. search needs)
     (λ c. let e = c .before .before in omega (arith, c .before .steel .ensures .0, steel-some (e .before .before .pre) (pos-of-ne-zero (e .if1 .left))))
     (λ c. omega (arith, centroid c, depth-in (c .before .before .before .before .pre) .1))
-    (λ c. omega (arith, centroid c)))
+    returns-2)

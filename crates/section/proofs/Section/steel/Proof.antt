@@ -44,6 +44,10 @@ loop-holds : tie.Need-loop-holds Inv-loop μ-loop
 unfolding sumN
 loop-holds c = (omega arith, refl, omega arith, refl, omega arith)
 
+-- what the layer at this place counts with
+here : (c : tie.After-struct-known Inv-loop μ-loop) → c .before .area-below .result ≡ areaBelow (c .before .before .before .before .before .before .args .t1) (c .before .before .before .before .loop .j)
+here c = c .before .area-below .ensures .0
+
 product-most :
     (c : tie.After-struct-known Inv-loop μ-loop)
     → c .before .area-below .result * depthAt (c .before .before .before .before .before .before .args .t1) (c .before .before .before .before .loop .j) ≤ 4294836225
@@ -52,12 +56,11 @@ product-most c = NatL.mul-le-mul {n₂ = 65535} {m₂ = 65535} (c .before .area-
 loop-again : tie.Need-loop-again Inv-loop μ-loop
 loop-again c =
     let s = c .before .before .before .before .before .before .args .t1 in
-    let l = c .before .before .before .before .loop in
-    let here : c .before .area-below .result ≡ areaBelow s (l .j) = c .before .area-below .ensures .0 in (
+    let l = c .before .before .before .before .loop in (
       omega arith,
-      omega (arith, sum-next (areaBelow s) (l .j), l .inv .1, here),
+      omega (arith, sum-next (areaBelow s) (l .j), l .inv .1, here c),
       omega (arith, l .inv .2, c .before .area-below .ensures .1),
-      rw (here, l .inv .3) (sym (sum-next (momentBelow s) (l .j))),
+      rw (here c, l .inv .3) (sym (sum-next (momentBelow s) (l .j))),
       omega (arith, l .inv .4, product-most c),
     )
 
