@@ -1,19 +1,18 @@
 /* Times the full list of depths of some sections through the C face against plain C, in one run: both give the same
  * list first, then each takes its turns between the other's, and the best of its turns counts. A line for each section;
  * the last line says which are as many times as fast as they should be. */
-#define _POSIX_C_SOURCE 199309L /* for clock_gettime */
+#include "timing.h"
 
 #include "fordwhistle.h"
 
 #include <stdio.h>
 #include <string.h>
-#include <time.h>
 
 #include "plain.h"
 
 /* A turn of plain C gives as many lists as have this many stresses: one list of a low section is too short to time. The
  * unit's gives MORE times as many, since it is over in so much less time. */
-enum { STRESSES = 2000000, MORE = 10, ROUNDS = 15, WORDS = 3 * HIGHEST };
+enum { STRESSES = 2000000, MORE = 10, WORDS = 3 * HIGHEST };
 
 /* A section, how many times as fast as plain C its list should be, or 0 where that is only reported,
  * and what it has. */
@@ -51,13 +50,6 @@ enum { SECTIONS = sizeof timed / sizeof *timed };
 
 static int64_t unit_row[WORDS], plain_row[WORDS];
 
-static double nanoseconds(void)
-{
-    struct timespec time;
-    clock_gettime(CLOCK_MONOTONIC, &time);
-    return 1e9 * (double)time.tv_sec + (double)time.tv_nsec;
-}
-
 static int same_list(const section *s, record r)
 {
     fw_listed listed = fw_depths(r.bytes, r.len, unit_row, WORDS);
@@ -82,18 +74,13 @@ static double plain_turn(const section *s, int lists)
     return nanoseconds() - start;
 }
 
-static double least(double a, double b)
-{
-    return a < b ? a : b;
-}
-
 /* How many times as fast the unit is. A list takes the stress of each strip and layer at each depth; the few of its
  * moments don't count. */
 static double ratio(const section *s, record r)
 {
     int stresses = s->h * (s->h + s->m), lists = (STRESSES + stresses - 1) / stresses;
     double unit = unit_turn(r, MORE * lists), plain = plain_turn(s, lists);
-    for (int round = 1; round < ROUNDS; round++) {
+    for (int turn = 1; turn < TURNS; turn++) {
         unit = least(unit, unit_turn(r, MORE * lists));
         plain = least(plain, plain_turn(s, lists));
     }

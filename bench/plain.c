@@ -27,9 +27,10 @@ law law_of(const section *s)
     static const int64_t modulus[] = {29000, 30500, 32000, 33500, 35000, 36000, 37000};
     int concrete = (s->fck - 20) / 5;
     law l;
+    l.d = effective_depth(s);
     l.fcd = s->fck * 1000 * 17 / 30;
     l.fyd = s->fyk * 1000 * 100 / 115;
-    l.s1 = 7 * flexural[concrete] * (1600 - effective_depth(s)) / 10000;
+    l.s1 = 7 * flexural[concrete] * (1600 - l.d) / 10000;
     l.e1 = 1000 * l.s1 / modulus[concrete];
     l.e2 = l.e1 + 100;
     l.s2 = 45 * s->feq2 / 100;

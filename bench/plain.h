@@ -7,7 +7,7 @@
 enum { E3 = 10000, HIGHEST = 1000 };
 
 typedef struct {
-    int64_t fcd, fyd, s1, s2, s3, e1, e2;
+    int64_t d, fcd, fyd, s1, s2, s3, e1, e2;
 } law;
 
 /* The strain at depth y is num (2x - 2y) / den. */

@@ -104,6 +104,21 @@ static void roots_have_a_limit_and_may_be_exact(void)
     CHECK(gives(exact, 864000000));
 }
 
+static section with_bars(uint16_t b, uint16_t h, uint16_t depth, uint16_t area, uint16_t fck)
+{
+    return (section){.b = b, .h = h, .fck = fck, .fyk = 500, .m = 1, .layers = {{depth, area}}};
+}
+
+/* Document 02's figures: k 1447 and c 1882; 2000 and 4641; 2000 and 1154; 1707 and 3914 on either side of 2 %. */
+static void roots_give_the_figures(void)
+{
+    CHECK(gives(with_bars(300, 1000, 999, 1000, 20), 97702200));
+    CHECK(gives(with_bars(2000, 50, 26, UINT16_MAX, 50), 57876000));
+    CHECK(gives(with_bars(50, 50, 26, 1, 20), 358800));
+    CHECK(gives(with_bars(300, 500, 400, 2400, 30), 96120000));
+    CHECK(gives(with_bars(300, 500, 400, 2401, 30), 96120000));
+}
+
 static void a_tensile_share_goes_towards_minus_infinity(void)
 {
     CHECK(gives(with_load(joist, 1000), 84915000));
@@ -165,6 +180,7 @@ int main(void)
     layers_count_below_mid_height();
     every_share_takes_the_centroid();
     roots_have_a_limit_and_may_be_exact();
+    roots_give_the_figures();
     a_tensile_share_goes_towards_minus_infinity();
     tension_leaves_the_fibres();
     fibres_are_rounded_twice();

@@ -1,9 +1,11 @@
--- No second answer fits: each contract says that the answer is one definition's. Assumes nothing.
+-- No second answer fits: each contract says that the answer is one definition's, or the one number that satisfies one. Assumes nothing.
 use mathlib.Core.Path.{sym, _∙_}
+use Rattle.roots.proofs.Theorems.{root-only}
 use Rattle.demands.specs.Decided.{Decided}
 
 pub decided : Decided
 decided = record {
+  root = λ κs a x y e f p q. root-only p q;
   section-refusal = λ κs a x y e f p q. p ∙ sym q;
   with-layer = λ κs a x y e f p q. p ∙ sym q;
   last-depth = λ κs a x y e f p q. p ∙ sym q;

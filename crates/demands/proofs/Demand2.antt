@@ -193,6 +193,7 @@ demand2 = record {
   imbalance-is = λ κs a x e p. amount-is (a .0) (a .1 .0) _ p;
   moment-is = λ κs a x e p. amount-is (a .0) (a .1 .0) _ p;
   depths = λ κs a x e p. list-is (a .0) (a .1 .0 .now) (p .0) (p .1);
+  root = λ κs a x e p. p;
   shear = λ κs a x e p. shear-is (a .0) p;
   square-root = square-root;
   cube-root = cube-root;

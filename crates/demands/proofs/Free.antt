@@ -3,6 +3,7 @@ use Rattle.demands.specs.Free.{Free}
 
 pub free : Free
 free = record {
+  root = λ κs a. tt;
   section-refusal = λ κs a. tt;
   with-layer = λ κs a. tt;
   last-depth = λ κs a. tt;

@@ -3,6 +3,8 @@
 use Prim.Native.Nat.{ℕ}
 use mathlib.Core.List.{List}
 use borrow.Fn.Kinds.{PK, RK, In, Out}
+use Rattle.roots.proofs.root.Kinds as Root
+use Rattle.roots.proofs.root.Reads as RootReads
 use Rattle.section.proofs.Section.refusal.Kinds as SectionRefusal
 use Rattle.section.proofs.Section.refusal.Reads as SectionRefusalReads
 use Rattle.section.proofs.Section.with_layer.Kinds as WithLayer
@@ -96,6 +98,9 @@ pub record Contract (n : ℕ) : Type 3 where
   pub gives : RK n
   pub asked : In n takes
   pub told : Out n takes gives
+
+abbrev pub root : Contract 0
+root = record { takes = Root.ps; gives = Root.r; asked = RootReads.Asked; told = RootReads.Learnt }
 
 abbrev pub section-refusal : Contract 0
 section-refusal = record { takes = SectionRefusal.ps; gives = SectionRefusal.r; asked = SectionRefusalReads.Asked; told = SectionRefusalReads.Learnt }

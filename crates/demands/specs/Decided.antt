@@ -21,6 +21,7 @@ OneIn {n} c read =
 
 -- of each public function
 pub record Decided : Type 0 where
+  pub root : One Contracts.root
   pub section-refusal : One Contracts.section-refusal
   pub with-layer : One Contracts.with-layer
   pub last-depth : One Contracts.last-depth

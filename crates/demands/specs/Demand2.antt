@@ -13,6 +13,7 @@ use Rattle.arith.specs.Floor.{RoundsDown}
 use Rattle.arith.specs.Joined.{over}
 use Rattle.arith.specs.Sums.{sumZ, after}
 use Rattle.arith.specs.Largest.{Largest, largest}
+use Rattle.roots.specs.Root.{raised, past, Root}
 use Rattle.section.specs.declared.Layer.{Layer}
 use Rattle.section.specs.declared.Section.{Section}
 use Rattle.section.specs.declared.Added.{Added}
@@ -109,7 +110,8 @@ pub record Demand2 : Type 0 where
   pub imbalance-is : Every.imbalance (λ s d x. x .refusal ≡ 0 → x .amount ≡ imbalance s d)
   pub moment-is : Every.moment (λ s d x. x .refusal ≡ 0 → x .amount ≡ moment s d)
   pub depths : Every.depths (λ s before x after. x .refusal ≡ 0 → ListIs s before x after)
-  -- shear; its roots are the largest of all numbers, and the axial share is rounded towards minus infinity
+  -- a root, of so many digits of it; shear, whose roots are the largest of all numbers, and whose axial share is rounded towards minus infinity
+  pub root : Every.root (λ cube digits by bound x. Root (raised cube by) (past digits) bound x)
   pub shear : Every.shear (λ s x. x .refusal ≡ 0 → x .amount ≡ pos (resistance s))
   pub square-root : (d bound : ℕ) → 0 < d → Largest (squared d) bound (largest (squared d) bound)
   pub cube-root : (bd bound : ℕ) → 0 < bd → Largest (cubed bd) bound (largest (cubed bd) bound)

@@ -34,6 +34,10 @@ Tells {n} c says =
     (κs : Lfts n) (a : Dens κs (c .takes)) (x : resT (c .gives) κs .Denot) (e : AtExit (endedOf n (c .takes) (c .gives)) κs)
     → c .told κs a x e → says κs a x e
 
+-- ---- roots
+abbrev pub root : (Bool → ℕ → ℕ → ℕ → ℕ → Type 0) → Type 0
+root says = Tells Contracts.root (λ κs a x e. says (a .0) (a .1 .0) (a .1 .1 .0) (a .1 .1 .1 .0) x)
+
 -- ---- section
 abbrev pub section-refusal : (Section → ℕ → Type 0) → Type 0
 section-refusal says = Tells Contracts.section-refusal (λ κs a x e. says (a .0) x)

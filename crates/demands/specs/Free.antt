@@ -11,6 +11,7 @@ AsksNothing {n} c = (κs : Lfts n) (a : Dens κs (c .takes)) → c .asked κs a
 
 -- of each public function
 pub record Free : Type 0 where
+  pub root : AsksNothing Contracts.root
   pub section-refusal : AsksNothing Contracts.section-refusal
   pub with-layer : AsksNothing Contracts.with-layer
   pub last-depth : AsksNothing Contracts.last-depth

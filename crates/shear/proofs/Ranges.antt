@@ -10,7 +10,6 @@ use Rattle.section.specs.Has.{concreteArea}
 
 -- a length, and b times it
 pub record AreaIn (b n : ℕ) : Type 0 where
-  pub some : 0 < n
   pub most : n ≤ 1000
   pub area : 0 < b * n
   pub area-most : b * n ≤ 2000000
@@ -19,7 +18,7 @@ pub record AreaIn (b n : ℕ) : Type 0 where
 pub times-width : {s : Section} → Accepted s → (n : ℕ) → 0 < n → n ≤ 1000 → AreaIn (s .b) n
 times-width {s} a n h k =
     let w : 0 < s .b = omega (arith, a .sizes .0 .0) in
-    record { some = h; most = k; area = NatL.mul-pos w h; area-most = NatL.mul-le-mul {n₂ = 2000} {m₂ = 1000} (a .sizes .0 .1) k }
+    record { most = k; area = NatL.mul-pos w h; area-most = NatL.mul-le-mul {n₂ = 2000} {m₂ = 1000} (a .sizes .0 .1) k }
 
 -- b h
 pub area-in : {s : Section} → Accepted s → AreaIn (s .b) (s .h)
@@ -28,6 +27,6 @@ area-in {s} a = times-width a (s .h) (omega (arith, a .sizes .1 .0)) (a .sizes .
 pub concrete-area : (s : Section) → concreteArea s ≡ s .b * s .h
 concrete-area s = sum-alike (s .h) (s .b)
 
--- what c³ b d is held to; c³ b d itself is `raised-most`
+-- what c³ b d is held to
 pub steel-product : (steel fck : ℕ) → steel ≤ 65535 * 8 → fck ≤ 50 → 100000000000 * steel * fck < 2 ^ 63
 steel-product steel fck h k = omega (arith, NatL.mul-le-mul {n₂ = 65535 * 8} {m₂ = 50} h k)

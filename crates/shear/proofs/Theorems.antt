@@ -12,7 +12,7 @@ use Rattle.section.specs.declared.Section.{Section}
 use Rattle.section.specs.Accepted.{Accepted}
 use Rattle.section.specs.Has.{concreteArea, loadOf}
 use Rattle.shear.specs.Shear.{squared, cubed, axialShare}
-use Rattle.shear.proofs.Roots.{raised-climbs}
+use Rattle.roots.proofs.Powers.{raised-climbs}
 use Rattle.shear.proofs.Ranges.{concrete-area, area-in}
 
 -- the root of k, and both roots of c

@@ -3,11 +3,10 @@ ghost use mathlib.Core.Path.{_≡_};
 ghost use Prim.Native.Nat.{_+_, _*_, _^_, _≤_, _<_, min, max};
 ghost use lib.IntN.{natAbs};
 ghost use Rattle.arith.specs.Floor.{floorDiv};
-ghost use Rattle.arith.specs.Largest.{Largest};
 ghost use Rattle.section.specs.Accepted.{Accepted};
 ghost use Rattle.law.specs.Law.{lawOf};
 ghost use Rattle.shear.specs.Shear.{kOf, cOf, atLeastZero, axialShare, concreteShare, fibreShare, stirrups, struts, resistanceUnder, shearAnswer};
-ghost use Rattle.shear.specs.Code.{raised, pastRoots, mostAxial, mostConcrete, mostShear};
+ghost use Rattle.shear.specs.Code.{mostAxial, mostConcrete, mostShear};
 use law::Law;
 use section::Amount;
 use section::Section;
@@ -24,44 +23,23 @@ fn most(a: u64, b: u64) -> u64
     if a < b { b } else { a }
 }
 
-// n² or n³, times a number.
-fn raised(cube: bool, by: u64, n: u64) -> u64
-    requires { ⌜ (by ≤ 2000000) × (n ≤ pastRoots) ⌝ }
-    ensures { λ r. ⌜ (r ≡ raised cube by n) × (r < 2 ^ 63) ⌝ }
-{
-    let square = n * n;
-    if cube { square * n * by } else { square * by }
-}
-
-// The largest n with n² or n³, times a number, at most `bound`: counting up, n fits and the next number does not.
-fn root(cube: bool, by: u64, bound: u64) -> u64
-    requires { ⌜ (by ≤ 2000000) × (bound < raised cube by pastRoots) ⌝ }
-    ensures { λ r. ⌜ (Largest (raised cube by) bound r) × (r < pastRoots) ⌝ }
-{
-    let mut n: u64 = 0;
-    while raised(cube, by, n + 1) <= bound {
-        n = n + 1;
-    }
-    n
-}
-
-// k in thousandths.
+// k in thousandths. It is at most 2000, so that 10 binary digits of r are enough.
 fn k_of(d: u64) -> u64
-    requires { ⌜ (0 < d) × (d ≤ 1000) ⌝ }
+    requires { ⌜ 0 < d ⌝ }
     ensures { λ r. ⌜ (r ≡ kOf d) × (r ≤ 2000) ⌝ }
 {
-    least(1000 + root(false, d, 200000000), 2000)
+    least(1000 + roots::root(false, 10, d, 200000000), 2000)
 }
 
-// c in thousandths, by b d, As and fck.
+// c in thousandths, by b d, As and fck: at most 4641, which has 13 binary digits.
 fn c_of(bd: u64, steel: u64, fck: u64) -> u64
-    requires { ⌜ (0 < bd) × (bd ≤ 2000000) × (steel ≤ 65535 * 8) × (fck ≤ 50) ⌝ }
-    ensures { λ r. ⌜ (r ≡ cOf bd steel fck) × (r < pastRoots) ⌝ }
+    requires { ⌜ (0 < bd) × (steel ≤ 65535 * 8) × (fck ≤ 50) ⌝ }
+    ensures { λ r. ⌜ (r ≡ cOf bd steel fck) × (r < 2 ^ 21) ⌝ }
 {
     if bd < 50 * steel {
-        root(true, 1, 2000000000 * fck)
+        roots::root(true, 13, 1, 2000000000 * fck)
     } else {
-        root(true, bd, 100000000000 * steel * fck)
+        roots::root(true, 13, bd, 100000000000 * steel * fck)
     }
 }
 

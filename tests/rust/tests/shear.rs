@@ -1,7 +1,7 @@
 //! `fw_shear` held to document 01's shear.
 use fordwhistle_tests::held::Held;
 use fordwhistle_tests::random::Random;
-use fordwhistle_tests::rules::{self, Amount, Section, Shear};
+use fordwhistle_tests::rules::{self, Amount, Layer, Section, Shear};
 use fordwhistle_tests::sections;
 use fordwhistle_tests::steel;
 use std::cmp::Ordering;
@@ -44,6 +44,29 @@ fn the_rules_give_the_figures() {
     };
     assert_eq!((k, c), (1608, 3548));
     assert_eq!(rules::shear(&beam.record()), answer);
+}
+
+/// Document 02's: b, d, As, fck, then k and c.
+#[test]
+fn the_rules_give_the_figures_of_the_roots() {
+    for (b, depth, area, fck, k, c) in [
+        (300, 999, 1000, 20, 1447, 1882),
+        (2000, 26, 65535, 50, 2000, 4641),
+        (50, 26, 1, 20, 2000, 1154),
+        (300, 400, 2400, 30, 1707, 3914),
+        (300, 400, 2401, 30, 1707, 3914),
+    ] {
+        let [plate, _] = sections::figures();
+        let section = Section {
+            b,
+            h: (depth + 1).max(50),
+            fck,
+            layers: vec![Layer { depth, area }],
+            ..plate
+        };
+        let shear = Shear::of(&section);
+        assert_eq!((shear.k, shear.c), (k, c));
+    }
 }
 
 fn refusals(records: impl Iterator<Item = Vec<u8>>) -> BTreeSet<u32> {
@@ -97,7 +120,7 @@ fn deepest(section: &Section) -> Shear {
 /// What a wrong program makes of the right numbers.
 type Error = (&'static str, fn(&Section, &mut Shear));
 
-const ERRORS: [Error; 29] = [
+const ERRORS: [Error; 31] = [
     ("every layer is below mid-height", |section, shear| {
         shear.c = rules::c(rules::bars(&section.layers), shear.bd, fck(section))
     }),
@@ -112,6 +135,12 @@ const ERRORS: [Error; 29] = [
     ("r is less than an exact root", |section, shear| {
         let exact = (shear.k - 1000).pow(2) * d(section) == 200_000_000;
         shear.k -= i128::from(exact)
+    }),
+    ("r has 9 binary digits", |_, shear| {
+        shear.k = shear.k.min(1511)
+    }),
+    ("c has 12 binary digits", |_, shear| {
+        shear.c = shear.c.min(4095)
     }),
     ("c has no limit", |section, shear| {
         shear.c = rules::unlimited_c(bars(section), shear.bd, fck(section))

@@ -1,34 +1,33 @@
 -- `c_of`: one root or the other. Assumes nothing.
 use Prim.Native.Nat.{_*_, _≤_}
-use mathlib.Core.Bool.{true}
 use native.Mathlib.Nat as NatL
 use native.Mathlib.Omega.{arith}
 use borrow.Author.Tests.{lt-ltb, le-ltb}
 use borrow.Author.Needs.{needs}
-use Rattle.arith.proofs.Largest.{found}
 use Rattle.shear.specs.Shear.{cOf}
-use Rattle.shear.proofs.Roots.{raised-climbs}
+use Rattle.shear.proofs.Roots.{c-root}
 use Rattle.shear.proofs.Ranges.{steel-product}
 use Rattle.shear.proofs.c_of.Statement.{statement}
 use Rattle.shear.proofs.c_of.Tie as tie
 
 -- steel x fck, and so what the cube is held to
 product : (c : tie.Start) → c .args .steel * c .args .fck ≤ c .args .steel * 50
-product c = NatL.mul-le-mul-left (c .args .steel) (c .pre .3)
+product c = NatL.mul-le-mul-left (c .args .steel) (c .pre .2)
 
 returns : tie.Need-returns
 unfolding cOf
 returns c =
     let a = c .before .before .args in
-    let is = found (raised-climbs true 1 (omega arith)) (c .root .ensures .0) in
-    (rw (lt-ltb (a .bd) (50 * a .steel) (c .before .if1 .taken)) is, c .root .ensures .1)
+    let r = c-root 1 (2000000000 * a .fck) _ (c .root .result) (omega arith) (c .root .ensures) (omega (arith, c .before .before .pre .2)) in
+    (rw (lt-ltb (a .bd) (50 * a .steel) (c .before .if1 .taken)) (r .0), omega (arith, r .1))
 
 returns-2 : tie.Need-returns-2
 unfolding cOf
 returns-2 c =
     let a = c .before .before .args in
-    let is = found (raised-climbs true (a .bd) (c .before .before .pre .0)) (c .root2 .ensures .0) in
-    (rw (le-ltb (a .bd) (50 * a .steel) (c .before .if1 .left)) is, c .root2 .ensures .1)
+    let some = c .before .before .pre .0 in
+    let r = c-root (a .bd) (100000000000 * a .steel * a .fck) _ (c .root2 .result) some (c .root2 .ensures) (omega (arith, product (c .before .before), c .before .if1 .left)) in
+    (rw (le-ltb (a .bd) (50 * a .steel) (c .before .if1 .left)) (r .0), omega (arith, r .1))
 
 pub c-of-spec : {M : Type 1} → statement M
 c-of-spec =
@@ -38,7 +37,7 @@ c-of-spec =
     (λ c. search needs)
     (λ c κs. search needs)
     (λ c. search needs)
-    (λ c. record { fits = omega (arith, steel-product (c .before .args .steel) (c .before .args .fck) (c .before .pre .2) (c .before .pre .3)) })
-    (λ c κs. (c .before .pre .1, omega (arith, product (c .before))))
+    (λ c. record { fits = omega (arith, steel-product (c .before .args .steel) (c .before .args .fck) (c .before .pre .1) (c .before .pre .2)) })
+    (λ c κs. search needs)
     returns
     returns-2)

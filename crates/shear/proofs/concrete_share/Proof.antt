@@ -1,5 +1,5 @@
 -- `concrete_share`: k and c, and the axial share. Assumes nothing.
-use Prim.Native.Nat.{ℕ, _+_, _*_, _/_, _≤_}
+use Prim.Native.Nat.{ℕ, _+_, _*_, _/_, _^_, _≤_}
 use mathlib.Core.Path.{_≡_, ap, _∙_}
 use native.Mathlib.Nat as NatL
 use native.Mathlib.Omega.{arith}
@@ -10,7 +10,7 @@ use borrow.Author.Needs.{needs}
 use Rattle.arith.proofs.Machine.{back, Stands, stands-pos, returned, stands-add, stands-fits, stored, stands-for}
 use Rattle.section.specs.Has.{steelArea}
 use Rattle.shear.specs.Shear.{kOf, cOf, atLeastZero, axialShare, concreteShare}
-use Rattle.shear.specs.Code.{pastRoots, mostAxial, mostConcrete}
+use Rattle.shear.specs.Code.{mostAxial, mostConcrete}
 use Rattle.shear.proofs.Ranges.{AreaIn, times-width}
 use Rattle.shear.proofs.concrete_share.Statement.{statement}
 use Rattle.shear.proofs.concrete_share.Tie as tie
@@ -19,8 +19,8 @@ web : (c : tie.Start) → AreaIn (c .args .section .b) (c .args .d)
 web c = times-width (c .pre .0) (c .args .d) (c .pre .1) (c .pre .2)
 
 -- 12 k c
-product : (c : tie.After-k-of) → 12 * c .k-of .result * c .before .c-of .result ≤ 12 * 2000 * pastRoots
-product c = NatL.mul-le-mul {n₂ = 12 * 2000} {m₂ = pastRoots} (omega (arith, c .k-of .ensures .1)) (omega (arith, c .before .c-of .ensures .1))
+product : (c : tie.After-k-of) → 12 * c .k-of .result * c .before .c-of .result ≤ 12 * 2000 * 2 ^ 21
+product c = NatL.mul-le-mul {n₂ = 12 * 2000} {m₂ = 2 ^ 21} (omega (arith, c .k-of .ensures .1)) (omega (arith, c .before .c-of .ensures .1))
 
 abbrev begun : tie.After-axial-share → tie.Start
 begun c = c .before .before .before .before .before .before
@@ -60,8 +60,8 @@ concrete-share-spec =
     (λ c. search needs)
     (λ c. record { fits = omega (arith, web (c .before .before) .area-most) })
     (λ c. search needs)
-    (λ c κs. let e = c .before .before .before in (web e .area, web e .area-most, c .before .before .steel .ensures .2, e .pre .0 .concrete .0 .1))
-    (λ c κs. let w = web (c .before .before .before .before) in (w .some, w .most))
+    (λ c κs. let e = c .before .before .before in (web e .area, c .before .before .steel .ensures .2, e .pre .0 .concrete .0 .1))
+    (λ c κs. c .before .before .before .before .pre .1)
     (λ c. search needs)
     (λ c. record { fits = omega (arith, product c) })
     (λ c. record { sfits = omega (arith, product c) })

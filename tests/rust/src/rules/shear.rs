@@ -1,5 +1,5 @@
-//! Shear. Roots are found by their binary digits and not by counting up, and the numbers stay apart until they are summed, so that a test
-//! can put one of them wrong.
+//! Shear. Roots are floating ones that are corrected, and not found by their digits; the numbers stay apart until they are summed, so that
+//! a test can put one of them wrong.
 use super::balance::Amount;
 use super::law::Law;
 use super::section::{bars, Section};
@@ -55,7 +55,7 @@ impl Shear {
 
 /// k before its limit.
 pub fn unlimited_k(d: i128) -> i128 {
-    1000 + largest(|r| r * r * d <= 200_000_000)
+    1000 + root(2, d, 200_000_000)
 }
 
 /// c, which rises with As over b d, so that its limit is the root at 2 %.
@@ -65,19 +65,16 @@ pub fn c(bars: i128, bd: i128, fck: i128) -> i128 {
 
 /// c before its limit.
 pub fn unlimited_c(bars: i128, bd: i128, fck: i128) -> i128 {
-    largest(|c| c.pow(3) * bd <= 100_000_000_000 * bars * fck)
+    root(3, bd, 100_000_000_000 * bars * fck)
 }
 
-/// The largest number that this holds of, where it holds of each from 0 to that one; 20 binary digits are enough for any root here.
-fn largest(holds: impl Fn(i128) -> bool) -> i128 {
-    (0..20).rev().fold(0, |root, digit| {
-        let larger = root + (1 << digit);
-        if holds(larger) {
-            larger
-        } else {
-            root
-        }
-    })
+/// The largest number that fits: its square or cube, times `by`, is at most `bound`. The floating root is within 1 of it.
+fn root(power: u32, by: i128, bound: i128) -> i128 {
+    let fits = |n: &i128| n.pow(power) * by <= bound;
+    let floating = (bound as f64 / by as f64).powf(1.0 / f64::from(power));
+    let root = (0..floating as i128 + 2).rev().find(fits).unwrap();
+    assert!(!fits(&(root + 1)));
+    root
 }
 
 /// What `fw_shear` answers.

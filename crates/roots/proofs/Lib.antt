@@ -1,0 +1,3 @@
+pub mod Powers
+pub mod Digits
+pub mod Theorems
