@@ -1,4 +1,4 @@
--- Document 02 [3], the roots of the shear rule, digit by digit: what `root` answers of the digits that the rule's roots have is what the rule names.
+-- Document 02 [3], the roots of the shear rule, digit by digit: what `root` answers of so many digits as they have is what the rule names.
 use Prim.Native.Nat.{ℕ, _+_, _*_, _≤_, _<_, min}
 use mathlib.Core.Path.{_≡_}
 use mathlib.Core.Bool.{true, false}

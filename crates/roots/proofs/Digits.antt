@@ -6,9 +6,9 @@ use mathlib.Core.Logic.{_⊎_, inl, inr, _↔_}
 use native.Mathlib.Nat as NatL
 use native.Mathlib.Omega.{arith}
 use native.Mathlib.Numerals.{sub-one}
-use lib.Dec.{leb}
+use lib.Dec.{ltb}
 use lib.Pow.{pow-lt}
-use borrow.Author.Tests.{leb-true, leb-false, le-leb, lt-leb}
+use borrow.Author.Tests.{ltb-true, ltb-false}
 use Rattle.arith.specs.Largest.{Largest}
 use Rattle.arith.proofs.Largest.{Climbs, counted-up}
 use Rattle.roots.specs.Root.{power, raised, Root}
@@ -30,28 +30,28 @@ pub record Narrowed (f : ℕ → ℕ) (end bound n run : ℕ) : Type 0 where
   pub within : n + run ≤ end
   pub next : n + run < end → bound < f (n + run)
 
--- what a round gives, by its test
-module _ (f : ℕ → ℕ) (bound n place : ℕ) where
-  pub set : f (n + place) ≤ bound → n + place ≡ withDigit f bound n place
-  set h = rw (le-leb (f (n + place)) bound h)
-
-  pub unset : bound < f (n + place) → n ≡ withDigit f bound n place
-  unset h = rw (lt-leb (f (n + place)) bound h)
-
 module _ {f : ℕ → ℕ} {end bound : ℕ} where
   -- at first all numbers are in the run
   pub all : f 0 ≡ 0 → Narrowed f end bound 0 end
   all none = record { fits = omega arith; within = omega arith; next = λ h. omega arith }
 
   -- a round halves it
-  halved-by : (n half : ℕ) (t : Bool) → leb (f (n + half)) bound ≡ t → Narrowed f end bound n (half + half) → Narrowed f end bound (cond t (n + half) n) half
-  halved-by n half true e w =
-      record { fits = leb-true _ _ e; within = omega (arith, w .within); next = λ h. rw (NatL.add-assoc n half half) (w .next (omega arith)) }
-  halved-by n half false e w = record { fits = w .fits; within = omega (arith, w .within); next = λ h. leb-false _ _ e }
+  halved-by :
+      (n half : ℕ) (t : Bool) → ltb bound (f (n + half)) ≡ t → Narrowed f end bound n (half + half)
+      → Narrowed f end bound (cond t n (n + half)) half
+  halved-by n half true e w = record { fits = w .fits; within = omega (arith, w .within); next = λ h. ltb-true _ _ e }
+  halved-by n half false e w =
+      record {
+        fits = ltb-false _ _ e;
+        within = omega (arith, w .within);
+        next = λ h. rw (NatL.add-assoc n half half) (w .next (omega arith));
+      }
 
-  pub halved : (n k place m : ℕ) → 0 < k → place ≡ 2 ^ (k - 1) → m ≡ withDigit f bound n place → Narrowed f end bound n (2 ^ k) → Narrowed f end bound m (2 ^ (k - 1))
+  pub halved :
+      (n k place m : ℕ) → 0 < k → place ≡ 2 ^ (k - 1) → m ≡ withDigit f bound n place → Narrowed f end bound n (2 ^ k)
+      → Narrowed f end bound m (2 ^ (k - 1))
   halved n k place m some at is w =
-      rw (is, ← at) (halved-by n place (leb (f (n + place)) bound) refl (rw (at, ← doubled k some) w))
+      rw (is, ← at) (halved-by n place (ltb bound (f (n + place))) refl (rw (at, ← doubled k some) w))
 
   -- and in the end n is alone in it
   module _ (n : ℕ) (c : Climbs f) (w : Narrowed f end bound n 1) where

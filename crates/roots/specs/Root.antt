@@ -15,7 +15,7 @@ raised cube by n = power cube n * by
 abbrev pub past : (digits : ℕ) → ℕ
 past digits = 2 ^ min digits 21
 
--- of the numbers below `end`, n is the largest with f n at most the bound: the largest of all numbers, or, where `end` fits too, the last below it
+-- of the numbers below `end`, n is the largest with f n at most the bound: the largest of all, or, where `end` fits too, the last below it
 pub record Root (f : ℕ → ℕ) (end bound n : ℕ) : Type 0 where
   pub largest : bound < f end → Largest f bound n
   pub last : f end ≤ bound → n + 1 ≡ end

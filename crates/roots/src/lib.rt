@@ -51,8 +51,8 @@ fn by_digits(cube: bool, digits: u32, bound: u64) -> u64
     n
 }
 
-// The largest n of so many binary digits with n² or n³, times `by`, at most `bound`. `by` is divided out before the rounds, so that a trial is a power
-// alone and none leaves 64 bits; 0 times any power fits.
+// The largest n of so many binary digits with n² or n³, times `by`, at most `bound`. `by` is divided out before the rounds, so that a trial
+// is a power alone and none leaves 64 bits; 0 times any power fits.
 pub fn root(cube: bool, digits: u32, by: u64, bound: u64) -> u64
     ensures { λ r. ⌜ Root (raised cube by) (past digits) bound r ⌝ }
 {

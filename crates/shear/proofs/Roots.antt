@@ -17,7 +17,9 @@ k-root d end n some r enough =
     (root-limited c r 1000 1000 enough, root-below c r)
 
 -- and where `end` is too large for c
-pub c-root : (bd bound end n : ℕ) → 0 < bd → Root (raised true bd) end bound n → bound < raised true bd end → (n ≡ largest (cubed bd) bound) × (n < end)
+pub c-root :
+    (bd bound end n : ℕ) → 0 < bd → Root (raised true bd) end bound n → bound < raised true bd end
+    → (n ≡ largest (cubed bd) bound) × (n < end)
 c-root bd bound end n some r large =
     let c = raised-climbs true bd some in
     (root-found c r large, root-below c r)

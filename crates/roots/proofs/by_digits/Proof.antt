@@ -1,5 +1,5 @@
 -- `by_digits`: each round halves the run of numbers that are left. Assumes nothing.
-use Prim.Native.Nat.{_^_, _≤_}
+use Prim.Native.Nat.{_^_, _≤_, _<_}
 use native.Mathlib.Omega.{arith}
 use lib.Pow.{pow-mono}
 use borrow.Author.Needs.{needs}
@@ -21,13 +21,16 @@ loop-holds c = (omega arith, all (power-none (c .args .cube)))
 with-digit-requires : tie.Need-with-digit-requires Inv-loop μ-loop
 with-digit-requires c κs =
     let l = c .before .before .loop in
-    omega (arith, l .inv .1 .within, c .place .ensures, doubled (l .left) (omega (arith, c .before .loop-test .taken)), pow-mono (c .before .before .before .pre))
+    let halves = doubled (l .left) (omega (arith, c .before .loop-test .taken)) in
+    omega (arith, l .inv .1 .within, c .place .ensures, halves, pow-mono (c .before .before .before .pre))
 
 loop-again : tie.Need-loop-again Inv-loop μ-loop
 loop-again c =
-    let r = c .before .before in
-    let l = r .before .loop in
-    (omega arith, halved (l .n) (l .left) (c .before .place .result) (c .with-digit .result) (omega (arith, r .loop-test .taken)) (c .before .place .ensures) (c .with-digit .ensures) (l .inv .1))
+    let l = c .before .before .before .loop in
+    let p = c .before .place in
+    let d = c .with-digit in
+    let some : 0 < l .left = omega (arith, c .before .before .loop-test .taken) in
+    (omega arith, halved (l .n) (l .left) (p .result) (d .result) some (p .ensures) (d .ensures) (l .inv .1))
 
 returns : tie.Need-returns Inv-loop μ-loop
 returns c =

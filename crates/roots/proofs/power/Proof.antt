@@ -7,10 +7,14 @@ use Rattle.roots.proofs.power.Statement.{statement}
 use Rattle.roots.proofs.power.Tie as tie
 
 returns : tie.Need-returns
-returns c = (ap (λ t. power t (c .before .args .n)) (sym (c .if1 .taken)), cube-most (c .before .args .n) (c .before .pre))
+returns c =
+    let n = c .before .args .n in
+    (ap (λ t. power t n) (sym (c .if1 .taken)), cube-most n (c .before .pre))
 
 returns-2 : tie.Need-returns-2
-returns-2 c = (ap (λ t. power t (c .before .args .n)) (sym (c .if1 .left)), omega (arith, square-most (c .before .args .n) (c .before .pre)))
+returns-2 c =
+    let n = c .before .args .n in
+    (ap (λ t. power t n) (sym (c .if1 .left)), omega (arith, square-most n (c .before .pre)))
 
 pub power-spec : {M : Type 1} → statement M
 power-spec =

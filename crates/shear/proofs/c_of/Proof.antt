@@ -18,7 +18,8 @@ returns : tie.Need-returns
 unfolding cOf
 returns c =
     let a = c .before .before .args in
-    let r = c-root 1 (2000000000 * a .fck) _ (c .root .result) (omega arith) (c .root .ensures) (omega (arith, c .before .before .pre .2)) in
+    let few = c .before .before .pre .2 in
+    let r = c-root 1 (2000000000 * a .fck) _ (c .root .result) (omega arith) (c .root .ensures) (omega (arith, few)) in
     (rw (lt-ltb (a .bd) (50 * a .steel) (c .before .if1 .taken)) (r .0), omega (arith, r .1))
 
 returns-2 : tie.Need-returns-2
@@ -26,7 +27,9 @@ unfolding cOf
 returns-2 c =
     let a = c .before .before .args in
     let some = c .before .before .pre .0 in
-    let r = c-root (a .bd) (100000000000 * a .steel * a .fck) _ (c .root2 .result) some (c .root2 .ensures) (omega (arith, product (c .before .before), c .before .if1 .left)) in
+    let most = 100000000000 * a .steel * a .fck in
+    let few = product (c .before .before) in
+    let r = c-root (a .bd) most _ (c .root2 .result) some (c .root2 .ensures) (omega (arith, few, c .before .if1 .left)) in
     (rw (le-ltb (a .bd) (50 * a .steel) (c .before .if1 .left)) (r .0), omega (arith, r .1))
 
 pub c-of-spec : {M : Type 1} → statement M
