@@ -27,6 +27,13 @@ static const struct {
      "one layer"},
     {{.b = 1000, .h = 100, .fck = 30, .fyk = 500, .feq2 = 3700, .feq3 = 4500}, 8, "no layers"},
     {{.b = 1000, .h = 50, .fck = 30, .fyk = 500, .feq2 = 3700, .feq3 = 4500}, 4, "no layers"},
+    {{.b = 300, .h = 1000, .fck = 30, .fyk = 500, .feq2 = 3700, .feq3 = 4500, .hf = 150, .bf = 1000},
+     50,
+     "no layers and a flange"},
+    {{.b = 300, .h = 1000, .fck = 30, .fyk = 500, .feq2 = 3700, .feq3 = 4500, .m = 1, .layers = {{940, 3216}},
+      .hf = 150, .bf = 1000},
+     0,
+     "one layer and a flange"},
     {{.b = 400,
       .h = 600,
       .fck = 30,
@@ -110,8 +117,9 @@ int main(void)
     }
     for (int i = 0; i < SECTIONS; i++) {
         const char *verdict = ratios[i] < timed[i].to_reach ? "missed" : "reached";
+        const char *shape = timed[i].s.hf > 0 ? " with a flange" : "";
         if (timed[i].to_reach != 0)
-            printf("%s%s at h %d", i == 0 ? "" : ", ", verdict, timed[i].s.h);
+            printf("%s%s at h %d%s", i == 0 ? "" : ", ", verdict, timed[i].s.h, shape);
     }
     puts("");
     return 0;

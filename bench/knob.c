@@ -37,6 +37,10 @@ static const struct {
       .layers = {{60, 402}, {120, 226}, {200, 226}, {280, 226}, {360, 226}, {440, 226}, {500, 804}, {540, 1608}}},
      10,
      "8 layers, pulled"},
+    {{.b = 200, .h = 400, .fck = 30, .fyk = 500, .feq2 = 2000, .feq3 = 2000, .load = 100000, .asw = 157, .m = 1,
+      .layers = {{360, 1000}}, .hf = 80, .bf = 800},
+     10,
+     "one layer and a flange"},
     /* The greatest b and d, the least steel and the weakest concrete: neither root is less in any accepted section. */
     {{.b = 2000, .h = 1000, .fck = 20, .fyk = 500, .feq2 = 2000, .feq3 = 2000, .asw = 157, .m = 1,
       .layers = {{999, 1}}},
@@ -69,6 +73,16 @@ static int same_answer(record r, uint32_t refusal)
            equal(unit, plain_shear(r.bytes, r.len, FLOATING));
 }
 
+/* At each length that is not the record's. */
+static int same_lengths(record r)
+{
+    int same = 1;
+    size_t right = r.len;
+    for (r.len = 0; r.len <= sizeof r.bytes; r.len++)
+        same = same && (r.len == right || same_answer(r, 6));
+    return same;
+}
+
 /* Each line of the table that concerns the call: no bars, a layer too many, the lines one by one, and a length that is
  * not the record's. */
 static int same_refusals(void)
@@ -76,12 +90,9 @@ static int same_refusals(void)
     section nine = girder;
     nine.m = 9;
     int same = same_answer(record_of(plate), 16) && same_answer(record_of(nine), 6);
-    for (uint32_t line = 6; line <= 13; line++)
-        same = same && same_answer(record_of(wrong_from(line)), line);
-    record right = record_of(girder), r = right;
-    for (r.len = 0; r.len <= sizeof r.bytes; r.len++)
-        same = same && (r.len == right.len || same_answer(r, 6));
-    return same;
+    for (int i = 0; i < LINES; i++)
+        same = same && same_answer(record_of(wrong_from(lines[i])), lines[i]);
+    return same && same_lengths(record_of(girder)) && same_lengths(record_of(rib));
 }
 
 static void turn_to(record *r, uint32_t spacing)

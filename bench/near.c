@@ -1,18 +1,14 @@
-/* Counts the depths at which the unit has to visit the strips. It bounds their forces in closed form, a quotient for
- * each piece of the law, since rounding takes less than 1 kPa off a strip: where zero does not lie between the bounds,
- * the sign of the imbalance is known. The bounds are written here once more, in plain C, and at every depth the plain
- * imbalance first has to lie within them. Then a line for each way to load the sections: at how many of their depths
- * zero lies between the bounds, and in which section at most. */
+/* Counts the depths at which the unit has to visit the strips. It bounds their forces in closed form: where zero does
+ * not lie between the bounds, the sign of the imbalance is known. The bounds are written once more, in plain C, and at
+ * every depth the plain imbalance first has to lie within them. Then a line for each way to load the sections: at how
+ * many of their depths zero lies between the bounds, and in which section at most. */
 #include <stdio.h>
+#include <stdlib.h>
 
-#include "plain.h"
+#include "bounds.h"
 
 /* Random sections are also counted under 4 x 3 loads that are aimed. */
-enum { RANDOM = 2000, LEVEL = 200, AIMS = 3, LOAD_MOST = 10000000 };
-
-typedef struct {
-    int64_t low, high;
-} bounds;
+enum { RANDOM = 2000, LEVEL = 200, RIBS = 1000, AIMS = 3, LOAD_MOST = 10000000 };
 
 /* A section, and by its depths the imbalance without load and its bounds. */
 typedef struct {
@@ -104,58 +100,27 @@ static section level_section(void)
     return s;
 }
 
-/* The strips of a side lie at places from the axis, the first at 0; twice the distance of place j is its reach, 2j + 1.
- * This many have a strain of at most e. */
-static int64_t places_to(axis a, int64_t e, int64_t strips)
+static section rib_section(void)
 {
-    int64_t places = (e * a.den / a.num + 1) / 2;
-    return places < strips ? places : strips;
+    section s = random_section();
+    s.hf = some(1, s.h - 1);
+    s.bf = some(s.b, 2000);
+    return s;
 }
 
-/* The stresses of the parabola from the axis up to a place, added up and then rounded. The reaches add up to the place
- * squared, three times their squares to 4 place^3 - place. The strain is taken in 500 millionths, or this would leave
- * 64 bits. */
-static int64_t parabola(const law *l, axis a, int64_t to)
-{
-    int64_t unit = a.num / 500, squares = 4 * to * to * to - to;
-    return l->fcd * unit * (24 * a.den * to * to - unit * squares) / (48 * a.den * a.den);
-}
-
-/* The same of the line from (ea, sa) to (eb, sb), between two places. */
-static int64_t ramp(axis a, int64_t ea, int64_t sa, int64_t eb, int64_t sb, int64_t from, int64_t to)
-{
-    int64_t p = a.num * (to * to - from * from), q = a.den * (to - from);
-    return (sa * (eb * q - p) + sb * (p - ea * q)) / ((eb - ea) * a.den);
-}
-
-/* Of the imbalance. Strips beyond 2000 bear fcd and those beyond e3 nothing: neither are rounded, nor add to what lies
- * between the bounds. */
-static bounds bounds_at(const section *s, const law *l, int64_t x)
-{
-    axis a = axis_at(s, x);
-    int64_t bent = places_to(a, 2000, x), below = s->h - x;
-    int64_t to1 = places_to(a, l->e1, below), to2 = places_to(a, l->e2, below), to3 = places_to(a, E3, below);
-    int64_t pushed = parabola(l, a, bent) + l->fcd * (x - bent);
-    int64_t pulled = ramp(a, 0, 0, l->e1, l->s1, 0, to1) + ramp(a, l->e1, l->s1, l->e2, l->s2, to1, to2) +
-                     ramp(a, l->e2, l->s2, E3, l->s3, to2, to3);
-    int64_t rest = -1000 * (int64_t)s->load;
-    for (int j = 0; j < s->m; j++)
-        rest += bar_force(s, l, a, j);
-    return (bounds){rest + s->b * (pushed - bent - pulled), rest + s->b * (pushed - pulled + to3)};
-}
-
-/* What is known of a section's depths; 0 where a bound does not hold. */
-static int look_at(base *to, section s)
+/* What is known of a section's depths. Where a bound does not hold, that is said and the program ends. */
+static void look_at(base *to, section s)
 {
     law l = law_of(&s);
     to->s = s;
     for (int x = 1; x <= s.h; x++) {
         to->at[x] = bounds_at(&s, &l, x);
         to->imbalances[x] = imbalance(&s, &l, x);
-        if (to->imbalances[x] < to->at[x].low || to->at[x].high < to->imbalances[x])
-            return 0;
+        if (to->imbalances[x] < to->at[x].low || to->at[x].high < to->imbalances[x]) {
+            printf("b %d h %d hf %d: an imbalance is not within its bounds\n", s.b, s.h, s.hf);
+            exit(1);
+        }
     }
-    return 1;
 }
 
 /* At how many depths zero lies between the bounds under a load, each N of which takes 1000 mN off. */
@@ -247,28 +212,33 @@ static void count_worst(count *c, const base *of)
 static void print(const char *loaded, const count *c)
 {
     const section *w = &c->worst;
-    printf("%s: %ld of %ld depths of %ld sections (%.4f %%), at most %d of %d (b %d, m %d, load %d)\n", loaded, c->near,
+    printf("%s: %ld of %ld depths of %ld sections (%.4f %%), at most %d of %d (b %d, m %d, load %d", loaded, c->near,
            c->depths, c->sections, 100 * (double)c->near / (double)c->depths, c->most, w->h, w->b, w->m, (int)w->load);
+    if (w->hf > 0)
+        printf(", hf %d, bf %d", w->hf, w->bf);
+    puts(")");
 }
 
 int main(void)
 {
     static base of;
-    count random = {0}, aimed = {0}, flat = {0}, worst = {0}, level = {0};
-    for (int i = 0; i < RANDOM + LEVEL; i++) {
-        if (!look_at(&of, i < RANDOM ? random_section() : level_section())) {
-            printf("b %d h %d: an imbalance is not within its bounds\n", of.s.b, of.s.h);
-            return 1;
-        }
-        if (i >= RANDOM) {
-            count_worst(&level, &of);
-            continue;
-        }
+    count random = {0}, aimed = {0}, flat = {0}, worst = {0}, level = {0}, flat_ribs = {0}, worst_ribs = {0};
+    for (int i = 0; i < RANDOM; i++) {
+        look_at(&of, random_section());
         count_under(&random, &of, within(-LOAD_MOST, LOAD_MOST));
         for (int aim = 0; aim < AIMS; aim++)
             count_aimed(&aimed, &of, any_balanced(&of));
         count_aimed(&flat, &of, flattest(&of));
         count_worst(&worst, &of);
+    }
+    for (int i = 0; i < LEVEL; i++) {
+        look_at(&of, level_section());
+        count_worst(&level, &of);
+    }
+    for (int i = 0; i < RIBS; i++) {
+        look_at(&of, rib_section());
+        count_aimed(&flat_ribs, &of, flattest(&of));
+        count_worst(&worst_ribs, &of);
     }
     puts("depths that need their strips:");
     print("random loads", &random);
@@ -276,5 +246,7 @@ int main(void)
     print("where the imbalance is flattest", &flat);
     print("worst load of each", &worst);
     print("level law, worst load of each", &level);
+    print("ribs, where the imbalance is flattest", &flat_ribs);
+    print("ribs, worst load of each", &worst_ribs);
     return 0;
 }

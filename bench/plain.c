@@ -78,9 +78,15 @@ static int64_t bar_stress(const law *l, int64_t p, int64_t q)
     return 200 * p / q;
 }
 
+/* Of strip i, as request [4] of document 02 has it. */
+static int64_t width_at(const section *s, int i)
+{
+    return i < s->hf ? s->bf : s->b;
+}
+
 static int64_t strip_force(const section *s, const law *l, axis a, int i)
 {
-    return s->b * concrete_stress(l, a.num * (2 * a.x - (2 * i + 1)), a.den);
+    return width_at(s, i) * concrete_stress(l, a.num * (2 * a.x - (2 * i + 1)), a.den);
 }
 
 int64_t bar_force(const section *s, const law *l, axis a, int j)

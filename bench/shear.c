@@ -16,8 +16,8 @@ static int whole(const uint8_t *bytes, size_t len)
 {
     if (len < 24)
         return 0;
-    size_t m = word(bytes + 20);
-    return m <= 8 && len == 24 + 4 * m && word(bytes + 22) == 0;
+    size_t m = word(bytes + 20), flange = word(bytes + 22) != 0 ? 4 : 0;
+    return m <= 8 && len == 24 + 4 * m + flange && (flange == 0 || word(bytes + len - 2) == 0);
 }
 
 static section section_of(const uint8_t *bytes)
@@ -29,10 +29,13 @@ static section section_of(const uint8_t *bytes)
     s.asw = word(bytes + 16);
     s.s = word(bytes + 18);
     s.m = word(bytes + 20);
+    s.hf = word(bytes + 22);
     for (int j = 0; j < s.m; j++) {
         s.layers[j].depth = word(bytes + 24 + 4 * j);
         s.layers[j].area = word(bytes + 26 + 4 * j);
     }
+    if (s.hf != 0)
+        s.bf = word(bytes + 24 + 4 * s.m);
     return s;
 }
 
@@ -49,13 +52,15 @@ static int bars_right(const section *s)
     return s->m == 0 || 2 * above > s->h;
 }
 
-/* Lines 7 to 13, then 16. */
+/* Lines 7 to 13, with 20 after 8, then 16. */
 static uint32_t refusal_of(const section *s)
 {
     if (s->fck < 20 || s->fck > 50 || s->fck % 5 != 0)
         return 7;
     if (s->b < 50 || s->b > 2000 || s->h < 50 || s->h > HIGHEST)
         return 8;
+    if (s->hf != 0 && (s->hf >= s->h || s->bf < s->b || s->bf > 2000))
+        return 20;
     if (s->fyk < 400 || s->fyk > 600)
         return 9;
     if (s->feq2 > 20000 || s->feq3 > 20000)
@@ -122,10 +127,10 @@ static int64_t c_of(roots how, const section *s, int64_t d)
     return root(how, 3, bd, 100000000000 * steel * s->fck);
 }
 
-/* 15 N / (100 b h) with N in mN, rounded towards minus infinity. */
+/* 15 N / (100 A) with N in mN, rounded towards minus infinity; A is the area of flange and web. */
 static int64_t axial_share(const section *s)
 {
-    int64_t n = 15 * 1000 * (int64_t)s->load, by = 100 * s->b * s->h;
+    int64_t n = 15 * 1000 * (int64_t)s->load, by = 100 * (s->bf * s->hf + s->b * (s->h - s->hf));
     return n / by - (n % by < 0);
 }
 
@@ -135,9 +140,17 @@ static int64_t concrete_share(roots how, const section *s, int64_t d)
     return greater(12 * k * c_of(how, s, d) / 100000 + axial_share(s), 0);
 }
 
+static int64_t kf_of(const section *s, int64_t d)
+{
+    if (s->hf == 0)
+        return 1000;
+    int64_t q = lesser(s->bf - s->b, lesser(3 * s->hf, 3 * s->b));
+    return lesser(1000 + 1000 * q * s->hf / (s->b * d), 1500);
+}
+
 static int64_t fibre_share(const section *s, int64_t d)
 {
-    return 12 * s->feq3 / 100 * greater(1000, 1600 - d) / 1000;
+    return 12 * s->feq3 / 100 * greater(1000, 1600 - d) * kf_of(s, d) / 1000000;
 }
 
 static int64_t stirrups(const section *s, const law *l)

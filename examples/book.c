@@ -1,18 +1,20 @@
 /* book TEXT-FILE BOOK-FILE: writes the section book of a text, which is standard input where TEXT-FILE is -. A line is a section: the
- * whole numbers b h fck fyk feq2 feq3 load Asw s, then depth and area of each bar layer, the layers in any order, blanks between them. A
- * line that is blank or begins with # is passed over. Ends with 0 where the book is written; with 1 where lines are bad, and each is named
- * on standard error, or where they are too many for one book; with 2 where a file can't be read or written. But for 0, BOOK-FILE stays as
- * it was, and where there was none, none is left. */
+ * whole numbers b h fck fyk feq2 feq3 load Asw s, then depth and area of each bar layer, the layers in any order, blanks between them; a
+ * section with a flange ends with the word flange, its height hf and its width bf. A line that is blank or begins with # is passed over.
+ * Ends with 0 where the book is written; with 1 where lines are bad, and each is named on standard error, or where they are too many for
+ * one book; with 2 where a file can't be read or written. But for 0, BOOK-FILE stays as it was, and where there was none, none is left. */
 #include "fordwhistle.h"
 
 #include <stdio.h>
 #include <stdlib.h>
 #include <string.h>
 
-enum { LONGEST_RECORD = 56, LONGEST_BOOK = 65536 };
+enum { LONGEST_RECORD = 60, LONGEST_BOOK = 65536 };
 
-/* The numbers of a line before its layers, and which of them is the load. */
-enum { NUMBERS = 9, LOAD = 6 };
+/* The numbers of a line before its layers, and which of them is the load; where a record has hf. */
+enum { NUMBERS = 9, LOAD = 6, HF = 22 };
+
+static const char flange_word[] = "flange";
 
 typedef struct {
     size_t len;
@@ -23,18 +25,32 @@ typedef struct {
 static uint8_t records[LONGEST_BOOK + LONGEST_RECORD], book[LONGEST_BOOK];
 static size_t records_len;
 
-/* What fw_write_book refuses, in words, by number. */
-static const char *const refusals[] = {
-    [6] = "refused 6, form of the record",
-    [7] = "refused 7, concrete: fck is none of 20, 25, 30, 35, 40, 45, 50",
-    [8] = "refused 8, width or height: b outside 50 to 2000 or h outside 50 to 1000",
-    [9] = "refused 9, bar strength: fyk outside 400 to 600",
-    [10] = "refused 10, fibre strength: feq2 or feq3 over 20000",
-    [11] = "refused 11, axial load outside -10000000 to 10000000",
-    [12] = "refused 12, bars: a depth outside 1 to h-1 or taken, an area of 0, over 8 layers, or the deepest not below mid-height",
-    [13] = "refused 13, stirrups without spacing: Asw is not 0 and s is",
-    [19] = "refused 19, more sections than a book of 65536 bytes holds",
+/* What fw_write_book refuses, in words and in the order of the header's table; what is not refused comes last. */
+static const struct {
+    uint32_t number;
+    const char *words;
+} refusals[] = {
+    {6, "refused 6, form of the record"},
+    {7, "refused 7, concrete: fck is none of 20, 25, 30, 35, 40, 45, 50"},
+    {8, "refused 8, width or height: b outside 50 to 2000 or h outside 50 to 1000"},
+    {20, "refused 20, flange: hf not below h, bf below b, or bf over 2000"},
+    {9, "refused 9, bar strength: fyk outside 400 to 600"},
+    {10, "refused 10, fibre strength: feq2 or feq3 over 20000"},
+    {11, "refused 11, axial load outside -10000000 to 10000000"},
+    {12, "refused 12, bars: a depth outside 1 to h-1 or taken, an area of 0, over 8 layers, or the deepest not below mid-height"},
+    {13, "refused 13, stirrups without spacing: Asw is not 0 and s is"},
+    {19, "refused 19, more sections than a book of 65536 bytes holds"},
+    {0, NULL},
 };
+
+/* The words of that one of two numbers which comes first. */
+static const char *first_words(uint32_t one, uint32_t other)
+{
+    size_t i = 0;
+    while (refusals[i].number != one && refusals[i].number != other)
+        i++;
+    return refusals[i].words;
+}
 
 static int is_blank(int c)
 {
@@ -56,21 +72,28 @@ static int ends_line(int c)
     return c == '\n' || c == EOF;
 }
 
+static int ends_word(int c)
+{
+    return is_blank(c) || ends_line(c);
+}
+
+static const char no_number[] = "a word that is no whole number";
+
 /* Reads the line's next number; what is wrong with it, or null. */
 static const char *read_number(FILE *text, int is_load, int32_t *number)
 {
     int64_t size = 0;
     int c = next(text), minus = c == '-', digits = 0;
     if (ends_line(c))
-        return "too few numbers for b h fck fyk feq2 feq3 load Asw s and pairs of depth and area";
+        return "too few numbers for b h fck fyk feq2 feq3 load Asw s, pairs of depth and area, and hf bf after the word flange";
     if (minus)
         getc(text);
     for (c = getc(text); c >= '0' && c <= '9'; c = getc(text), digits = 1)
         if (size <= INT32_MAX)
             size = 10 * size + c - '0';
     ungetc(c, text);
-    if (digits == 0 || !(is_blank(c) || ends_line(c)))
-        return "a word that is no whole number";
+    if (digits == 0 || !ends_word(c))
+        return no_number;
     if (minus)
         size = -size;
     if (is_load ? size < INT32_MIN || size > INT32_MAX : size < 0 || size > UINT16_MAX)
@@ -79,10 +102,26 @@ static const char *read_number(FILE *text, int is_load, int32_t *number)
     return NULL;
 }
 
-static void append(record *r, size_t bytes, int32_t number)
+/* Reads a word in a number's place, which has to be this one; what is wrong with it, or null. */
+static const char *read_word(FILE *text, const char *word)
+{
+    int c = getc(text);
+    for (; *word != '\0' && c == *word; word++)
+        c = getc(text);
+    ungetc(c, text);
+    return *word == '\0' && ends_word(c) ? NULL : no_number;
+}
+
+static void put(record *r, size_t at, size_t bytes, int32_t number)
 {
     for (size_t i = 0; i < bytes; i++)
-        r->bytes[r->len++] = (uint8_t)((uint32_t)number >> (8 * i));
+        r->bytes[at + i] = (uint8_t)((uint32_t)number >> (8 * i));
+}
+
+static void append(record *r, size_t bytes, int32_t number)
+{
+    put(r, r->len, bytes, number);
+    r->len += bytes;
 }
 
 static uint32_t add_layer(record *r, int32_t depth, int32_t area)
@@ -95,27 +134,63 @@ static uint32_t add_layer(record *r, int32_t depth, int32_t area)
     return added.refusal;
 }
 
-/* Reads a line's record; what is wrong with it, or null. Of refusals that is the first of the table: where h is wrong, not the depth that
- * can't be added for it. */
-static const char *read_record(FILE *text, record *r)
+/* Reads the line's numbers before its layers; what is wrong with one, or null. */
+static const char *read_numbers(FILE *text, record *r)
 {
     const char *wrong;
-    int32_t number, area;
-    uint32_t added = 0, refusal;
+    int32_t number;
     for (int i = 0; i < NUMBERS; i++) {
         if ((wrong = read_number(text, i == LOAD, &number)) != NULL)
             return wrong;
         append(r, i == LOAD ? 4 : 2, number);
     }
     append(r, 4, 0);
-    while (!ends_line(next(text))) {
-        if ((wrong = read_number(text, 0, &number)) != NULL || (wrong = read_number(text, 0, &area)) != NULL)
+    return NULL;
+}
+
+/* Reads the line's layers and adds each, up to one that is refused: its number is then in `added`. What is wrong with a word, or null. */
+static const char *read_layers(FILE *text, record *r, uint32_t *added)
+{
+    const char *wrong;
+    int32_t depth, area;
+    for (int c = next(text); !ends_line(c) && c != *flange_word; c = next(text)) {
+        if ((wrong = read_number(text, 0, &depth)) != NULL || (wrong = read_number(text, 0, &area)) != NULL)
             return wrong;
-        if (added == 0)
-            added = add_layer(r, number, area);
+        if (*added == 0)
+            *added = add_layer(r, depth, area);
     }
-    refusal = fw_write_book(r->bytes, r->len, book, sizeof book).refusal;
-    return refusals[added != 0 && (refusal == 0 || refusal > added) ? added : refusal];
+    return NULL;
+}
+
+/* Reads the flange, where the line has one, and files it behind the layers; what is wrong with it, or null. */
+static const char *read_flange(FILE *text, record *r)
+{
+    const char *wrong;
+    int32_t hf, bf;
+    if (ends_line(next(text)))
+        return NULL;
+    if ((wrong = read_word(text, flange_word)) != NULL || (wrong = read_number(text, 0, &hf)) != NULL ||
+        (wrong = read_number(text, 0, &bf)) != NULL)
+        return wrong;
+    if (!ends_line(next(text)))
+        return "a word after the flange's hf and bf";
+    put(r, HF, 2, hf);
+    if (hf != 0) {
+        append(r, 2, bf);
+        append(r, 2, 0);
+    }
+    return NULL;
+}
+
+/* Reads a line's record; what is wrong with it, or null. Of refusals that is the first of the table: where h is wrong, not the depth that
+ * can't be added for it. */
+static const char *read_record(FILE *text, record *r)
+{
+    const char *wrong;
+    uint32_t added = 0;
+    if ((wrong = read_numbers(text, r)) != NULL || (wrong = read_layers(text, r, &added)) != NULL || (wrong = read_flange(text, r)) != NULL)
+        return wrong;
+    return first_words(added, fw_write_book(r->bytes, r->len, book, sizeof book).refusal);
 }
 
 /* Reads every line; whether none is bad. */
@@ -190,7 +265,7 @@ int main(int count, char **words)
         return 1;
     written = fw_write_book(records, records_len, book, sizeof book);
     if (written.refusal != 0) {
-        fprintf(stderr, "book: %s\n", refusals[written.refusal]);
+        fprintf(stderr, "book: %s\n", first_words(written.refusal, written.refusal));
         return 1;
     }
     return write_file(words[2], written.len) ? 0 : fails("write", words[2]);

@@ -16,7 +16,7 @@ static int64_t row[WORDS];
 static const char *const refusals[] = {
     "none", "length of the book", "no BOOK at its end", "place of the index", "places of the records", "no such record",
     "form of the record", "concrete", "width or height", "bar strength", "fibre strength", "axial load", "bars",
-    "stirrups without spacing", "no depth to list", "row too short", "no bars", "class", "strain or depth",
+    "stirrups without spacing", "no depth to list", "row too short", "no bars", "class", "strain or depth", "no room to write", "flange",
 };
 
 static void print_refusal(uint32_t refusal)

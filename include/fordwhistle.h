@@ -1,9 +1,9 @@
 /* fordwhistle.h: the section unit, for the panel's C program. Link libpanel.a; installed, by `pkg-config --cflags --libs fordwhistle`.
  *
  * Every function takes any input, returns, keeps nothing and calls nothing but memcpy and memset. An answer begins with its refusal: 0
- * where the call is answered, else the first number below that holds of those that concern the call, and every other number of the answer
- * is then 0 (of a double, plus zero), save the count beside 15. A refused call writes nothing, and of all functions only fw_write_book,
- * fw_add_layer and fw_depths write at all, into what they are lent to be written.
+ * where the call is answered, else the number of the first line below that holds of those that concern the call, and every other number of
+ * the answer is then 0 (of a double, plus zero), save the count beside 15. A refused call writes nothing, and of all functions only
+ * fw_write_book, fw_add_layer and fw_depths write at all, into what they are lent to be written.
  *
  *    1  book shorter than 16 bytes, longer than 65536, or not of its stated length
  *    2  book whose last four bytes are not BOOK
@@ -11,9 +11,10 @@
  *    4  first record (or, where n is 0, the index) not at 0, a layer count over 8, or a record that runs past the index or does not end
  *       where the next (or the index) starts
  *    5  record asked for is n or more
- *    6  record not 24 + 4m bytes, m over 8, or the zero not zero
+ *    6  record not 24 + 4m bytes (28 + 4m where hf is not 0), m over 8, or the zero after bf not zero
  *    7  concrete not in the table: fck is none of 20, 25, 30, 35, 40, 45, 50
  *    8  b outside 50 to 2000, or h outside 50 to 1000
+ *   20  flange, tested here since b and h are its limits: where hf is not 0, hf not below h, bf below b, or bf over 2000
  *    9  fyk outside 400 to 600
  *   10  feq2 or feq3 over 20000
  *   11  axial load outside -10000000 to 10000000
@@ -42,7 +43,7 @@ extern "C" {
 /* A record is a section in bytes, little-endian, without padding and at any address:
  *
  *   byte     bits
- *   0        16         b, width
+ *   0        16         b, width; of a section with a flange that of its web
  *   2        16         h, height
  *   4        16         fck, the concrete by its cylinder strength, N/mm2
  *   6        16         fyk, bar strength, N/mm2
@@ -52,16 +53,19 @@ extern "C" {
  *   16       16         Asw, stirrup area; 0 is none, and s is then ignored
  *   18       16         s, stirrup spacing
  *   20       16         m, layer count
- *   22       16         zero
+ *   22       16         hf, flange height; 0 is no flange
  *   24 + 4j  16         depth of bar layer j from the compressed face, for each j from 0 to m-1
  *   26 + 4j  16         its area
+ *   24 + 4m  16         bf, flange width, where hf is not 0
+ *   26 + 4m  16         zero, where hf is not 0
  *
- * A record stands alone or in a book, the same bytes in both. */
+ * So it has 24 + 4m bytes, and 4 more where hf is not 0; 60 bytes hold every record. It stands alone or in a book, the same bytes in both.
+ * A section with a flange is bf wide from the compressed face down to hf, and b wide below that, in its web. */
 
 /* A book is the bytes of n records and of an index to them, 16 to 65536 bytes in all, little-endian, without padding and at any address:
  *
  *   byte        bits
- *   0                the records, one after another, each of 24 + 4m bytes by its own m
+ *   0                the records, one after another, each of 24 + 4m bytes by its own m, and 4 more where its own hf is not 0
  *   index + 4k  32   place of record k, the byte of the book at which it starts, for each k from 0 to n-1
  *   len - 16    32   place of the index, the byte at which the last record ends
  *   len - 12    32   n, the number of records; 0 too, and the index is then at 0
@@ -79,13 +83,13 @@ typedef struct {
 } fw_book_answer;
 
 /* How many records a book has; it may have none, and count is then 0 beside 0. Refusal 1, then 2, 3 and 4; count is then 0. Writes nothing.
- * Of its records only the places and the layer counts are looked at. What else is wrong with one is for the functions that take a record
- * to refuse. */
+ * Of its records only the places, the layer counts and whether hf is 0 are looked at. What else is wrong with one is for the functions
+ * that take a record to refuse. */
 fw_book_answer fw_book(const uint8_t *book, size_t len);
 
 /* A record of a book, as a part of the caller's book, not copied: the len bytes from book + at.
  * at: the record's place.
- * len: 24 + 4m, where m, its layer count, is at most 8. */
+ * len: 24 + 4m, where m, its layer count, is at most 8, and 4 more where its hf is not 0. */
 typedef struct {
     uint32_t refusal, at, len;
 } fw_record_answer;
@@ -93,7 +97,7 @@ typedef struct {
 /* The record of this number in a book, the first being 0. Refusal 1 to 4 as fw_book, whichever record is asked for, then 5 where number is
  * n or more, so of a book of no records always; at and len are then 0, an empty part. Writes nothing.
  * book + at and len are handed on as they are, at whatever address that is, to the functions below that take a record. These can still
- * refuse the record of a good book: 6 where its zero is not zero, and 7 to 13. An empty part they refuse 6. */
+ * refuse the record of a good book: 6 where the zero after its bf is not zero, and 7 to 13 with 20. An empty part they refuse 6. */
 fw_record_answer fw_record(const uint8_t *book, size_t len, uint32_t number);
 
 /* A book or a record, written into lent bytes.
@@ -104,20 +108,22 @@ typedef struct {
 
 /* Writes the book of the sections whose records stand one after another in the len bytes, in that order; of no section it has 16 bytes.
  * A record with Asw 0 is written with s 0, whatever s it has, any other as it is.
- * Refusal 6, then 7 to 13, of each record in turn, of 24 + 4m bytes by its own m: the first that is refused gives its number, also where
- * the book would be too long as well. What is left at the end and is no whole record is refused 6. Then 19 where room or 65536 is less
- * than the length of the book, which is len, 4 for each record and 16. On any refusal the len returned is 0 and all of book stays.
+ * Refusal 6, then 7 to 13 with 20, of each record in turn, as long as its own m and hf say: the first that is refused gives its
+ * number, also where the book would be too long as well. What is left at the end and is no whole record is refused 6. Then 19 where room
+ * or 65536 is less than the length of the book, which is len, 4 for each record and 16. On any refusal the len returned is 0 and all of
+ * book stays.
  * book is a pointer to room bytes that may be read and written; none of them is part of the records. room is any number, 0 too, and book
  * may then be null: no book has no bytes, so where no record is refused that is 19. 65536 bytes hold every book. */
 fw_written fw_write_book(const uint8_t *records, size_t len, uint8_t *book, size_t room);
 
 /* Writes a record with a layer of this depth and area added: in its place, so that the depths rise, with m one more and all else as it
- * is, s too. Refusal 6, then 12, here where depth is outside 1 to h-1 (so always where h is 0 or 1), area is 0, a layer of that depth or
- * 8 layers are there, or a layer that is there has its depth outside 1 to h-1 or an area of 0, or their depths do not rise strictly. No
- * other test of a section is made: not 7 to 11, 13, nor whether the deepest layer lies below mid-height. Then 19 where room is less than
- * the length of the new record, 24 + 4(m+1) by the m of the old. On any refusal the len returned is 0 and all of out stays.
+ * is, s too, and bf after the layers. Refusal 6, then 12, here where depth is outside 1 to h-1 (so always where h is 0 or 1), area is 0, a
+ * layer of that depth or 8 layers are there, or a layer that is there has its depth outside 1 to h-1 or an area of 0, or their depths do
+ * not rise strictly. No other test of a section is made: not 7 to 11 with 20, not 13, nor whether the deepest layer lies below
+ * mid-height. Then 19 where room is less than the length of the new record, 24 + 4(m+1) by the m of the old, and 4 more where hf is not 0.
+ * On any refusal the len returned is 0 and all of out stays.
  * out is a pointer to room bytes that may be read and written; none of them is part of the record. room is any number, 0 too, and out may
- * then be null. 56 bytes hold every record. */
+ * then be null. 60 bytes hold every record. */
 fw_written fw_add_layer(const uint8_t *record, size_t len, uint16_t depth, uint16_t area, uint8_t *out, size_t room);
 
 /* The class of a fibre concrete.
@@ -164,8 +170,8 @@ typedef struct {
     fw_point point;
 } fw_drawn;
 
-/* The point of a record's section at a whole strain. Refusal 6, then 7 to 13, then 18 where strain is below -10000 or above 3500; strain
- * and stress are then plus zero. Writes nothing. */
+/* The point of a record's section at a whole strain. Refusal 6, then 7 to 13 with 20, then 18 where strain is below -10000 or above
+ * 3500; strain and stress are then plus zero. Writes nothing. */
 fw_drawn fw_draw(const uint8_t *record, size_t len, int32_t strain);
 
 /* One number of a section.
@@ -178,16 +184,16 @@ typedef struct {
 /* The balance of a section with its neutral axis at a depth x from the compressed face, a whole one from 1 to h: the grid.
  *
  * Where 7 limit > 27 x the strain at depth y is 10000 (x - y) / (limit - x), else 3500 (x - y) / x. It stays an exact fraction.
- * The section is cut in h strips of 1 mm, each with the strain at its middle. A strip's stress is that of the law above, and zero in
- * tension beyond e3. A bar layer's is 200 times the strain, its size at most fyd, which is 100000 fyk / 115 rounded down. The size of
- * each strip's and each bar layer's stress is rounded down to a whole number of kPa, and nothing before it. Bars add their whole force;
- * the concrete in their place is not taken off.
+ * The section is cut in h strips of 1 mm, each with the strain at its middle. The first hf of them, from the compressed face, are bf wide,
+ * the others b. A strip's stress is that of the law above, and zero in tension beyond e3. A bar layer's is 200 times the strain, its size
+ * at most fyd, which is 100000 fyk / 115 rounded down. The size of each strip's and each bar layer's stress is rounded down to a whole
+ * number of kPa, and nothing before it. Bars add their whole force; the concrete in their place is not taken off.
  *
  * imbalance: compression forces minus tension forces minus the axial load, in mN.
  * moment: about mid-height, the sum of each force times twice its distance, in mN half-mm; positive where the compressed face is on top. */
 
-/* The imbalance of a record's section at depth x. Refusal 6, then 7 to 13, then 18 where x is 0 or more than h; amount is then 0.
- * Where nothing is refused it is 0 too if the forces balance at x. Writes nothing. */
+/* The imbalance of a record's section at depth x. Refusal 6, then 7 to 13 with 20, then 18 where x is 0 or more than h; amount is
+ * then 0. Where nothing is refused it is 0 too if the forces balance at x. Writes nothing. */
 fw_amount fw_imbalance(const uint8_t *record, size_t len, uint32_t x);
 
 /* The moment of a record's section at depth x, balanced or not. Refused as fw_imbalance is; amount is then 0. A moment can also be
@@ -203,27 +209,28 @@ typedef struct {
 } fw_listed;
 
 /* Writes the listed depths of a record's section into a lent row, three words each: x, its kind, the moment at x. The words after them
- * stay. Refusal 6, then 7 to 13, then 14, and count is then 0; then 15 where words is less than 3 times the number of listed depths,
- * and count is then that number. On any refusal the whole row stays.
+ * stay. Refusal 6, then 7 to 13 with 20, then 14, and count is then 0; then 15 where words is less than 3 times the number of
+ * listed depths, and count is then that number. On any refusal the whole row stays.
  * row is a pointer to as many words as said that may be read and written; none of them is part of the record. words is any number, 0 too,
  * and row may then be null: where there is a depth to list, that is refused 15 and so asks for the count alone. 3 h words hold every list
  * of a section of height h, so 3000 the list of any section. The call takes some 3 KB of stack, that of any other function less than 1. */
 fw_listed fw_depths(const uint8_t *record, size_t len, int64_t *row, size_t words);
 
 /* The shear resistance of a section with bars. d and fyd are as above. As is the area of the layers below mid-height, N is the axial load
- * in mN, 1000 times the record's. Each quotient is rounded down to a whole number before it is used, and so the share of a tensile load
- * towards minus infinity:
+ * in mN, 1000 times the record's, A is the area of the concrete, bf hf + b (h - hf), which is b h where hf is 0. Each quotient is rounded
+ * down to a whole number before it is used, and so the share of a tensile load towards minus infinity:
  *   k = 1000 + r, at most 2000, with the largest r such that r x r x d is at most 200000000
  *   c = the largest such that c x c x c x b d is at most 100000000000 As fck; where 50 As > b d, that c x c x c is at most 2000000000 fck
- *   concrete = 12 k c / 100000 + 15 N / (100 b h), at least 0
- *   fibres = t x max(1000, 1600 - d) / 1000, with t = 12 feq3 / 100
+ *   concrete = 12 k c / 100000 + 15 N / (100 A), at least 0
+ *   kf = 1000 + 1000 q hf / (b d), at most 1500, with q the least of bf - b, 3 hf and 3 b; where hf is 0, 1000
+ *   fibres = t x max(1000, 1600 - d) x kf / 1000000, with t = 12 feq3 / 100
  *   stirrups = 9 Asw d fyd / (10 s), or 0 where Asw is 0
  *   struts = max(500, 700 - 5 fck) x (2000 fck / 3) x 9 b d / 20000
  *
  * shear resistance: the lesser of (concrete + fibres) x b d + stirrups and struts, in mN; 0 or more. */
 
-/* The shear resistance of a record's section, in mN. Refusal 6, then 7 to 13, then 16; amount is then 0. Where nothing is refused it is
- * 0 too if tension takes all that the concrete bears and neither fibres nor stirrups bear anything. Writes nothing. */
+/* The shear resistance of a record's section, in mN. Refusal 6, then 7 to 13 with 20, then 16; amount is then 0. Where nothing is
+ * refused it is 0 too if tension takes all that the concrete bears and neither fibres nor stirrups bear anything. Writes nothing. */
 fw_amount fw_shear(const uint8_t *record, size_t len);
 
 #ifdef __cplusplus

@@ -23,16 +23,20 @@ typedef struct {
 void draw_head(const list *l);
 void draw_refused_head(uint32_t refusal);
 
-/* Where the section is drawn, dots a mm, whether its width goes on beyond what is drawn. */
+/* How much of the section is drawn: all of it; its web and a piece of its flange; a piece of its width, within the web. */
+typedef enum { WHOLE, FLANGE_CUT, CUT } extent;
+
+/* Where the section is drawn, dots a mm; within it the web, and how high the flange is, 0 where none is drawn. */
 typedef struct {
-    double left, top, width, height, scale;
-    int broken;
+    extent drawn;
+    double left, top, width, height, scale, web_left, web_width, flange;
 } frame;
 
 frame frame_of(const section *s);
 
-/* Where a depth lies on the sheet. */
+/* Where a depth lies on the sheet, and where the concrete begins there, from the left. */
 double place_of(const frame *f, double mm);
+double left_at(const frame *f, double mm);
 
 /* Left: concrete and stirrups, under the lines across; the layers, over them. */
 void draw_section(const section *s, const frame *f);

@@ -44,8 +44,8 @@ int sheet_height(const list *l)
 /* Lines may lie 2 dots apart, so that the one to read can't be much thicker. It is told by what it leads to. */
 static void draw_across(const list *l, uint32_t i, const frame *f)
 {
-    double y = place_of(f, (double)l->depths[i].x);
-    line(f->left, y, f->left + f->width + 7, y, i == l->least ? 2.5 : 1);
+    double x = (double)l->depths[i].x, y = place_of(f, x);
+    line(left_at(f, x), y, f->left + f->width + 7, y, i == l->least ? 2.5 : 1);
 }
 
 static void draw_row(const depth_words *w, double top, int how)

@@ -51,7 +51,7 @@ static int32_t plateau_of(const section *s)
  * from the second on. */
 bends bends_of(const section *s)
 {
-    uint8_t record[24 + 4 * MOST_LAYERS];
+    uint8_t record[MOST_BYTES];
     section bare = without_fibres(s, record);
     bends b = {.e1 = 1, .e3 = MOST_TENSION, .plateau = plateau_of(s)};
     while (tension_at(&bare, b.e1 + 1) > tension_at(&bare, b.e1))

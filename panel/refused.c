@@ -7,7 +7,7 @@
 #include "figure.h"
 #include "svg.h"
 
-/* By number, up to the last that leaves a sheet without its moment: the table of refusals, and what to do. */
+/* By number, those that leave a sheet without its moment: the table of refusals, and what to do. */
 refusal_words words_of(uint32_t refusal)
 {
     static const refusal_words table[] = {
@@ -19,7 +19,8 @@ refusal_words words_of(uint32_t refusal)
         {"The first record does not start at byte 0, a record has more than 8 layers, or one does not end where the next or the index starts.",
          "The records or the index are damaged: copy the book again."},
         {"The book has no record of this number.", "Records are numbered from 0: ask for one that the book has."},
-        {"The record is not 24 + 4m bytes, has more than 8 layers, or its zero is not zero.", "The record is damaged: file the section again."},
+        {"The record is not 24 + 4m bytes, 28 + 4m with a flange, has more than 8 layers, or the zero after bf is not zero.",
+         "The record is damaged: file the section again."},
         {"The concrete is not in the table: fck is none of 20, 25, 30, 35, 40, 45, 50 N/mm².",
          "Choose a concrete of the table and file the section again."},
         {"The width b is not 50 to 2000 mm, or the height h is not 50 to 1000 mm.",
@@ -31,6 +32,8 @@ refusal_words words_of(uint32_t refusal)
          "Give depth and area of each layer from the compressed face down, and file the section again."},
         {"There are stirrups without a spacing.", "Give the spacing s, or no stirrup area, and file the section again."},
         {"There is no depth to list.", "The same side outweighs the other at every depth: check the axial load, the bars and the fibres."},
+        [20] = {"The flange height hf is not below h, or the flange width bf is below b or over 2000 mm.",
+                "Check hf and bf, give hf 0 where there is no flange, and file the section again."},
     };
     return table[refusal];
 }
@@ -54,13 +57,14 @@ static found_words found(uint32_t refusal, const section *s)
     found_words f = {""};
     figure feq2 = exact(s->feq2, 3), feq3 = exact(s->feq3, 3), load = exact(s->load, 3);
     switch (refusal) {
-    case 6: snprintf(f.text, sizeof f.text, "%u in the field that has to be zero", s->zero); break;
+    case 6: snprintf(f.text, sizeof f.text, "%u in the field after bf that has to be zero", s->zero); break;
     case 7: snprintf(f.text, sizeof f.text, "fck %u N/mm²", s->fck); break;
     case 8: snprintf(f.text, sizeof f.text, "b %u mm, h %u mm", s->b, s->h); break;
     case 9: snprintf(f.text, sizeof f.text, "fyk %u N/mm²", s->fyk); break;
     case 10: snprintf(f.text, sizeof f.text, "feq2 %s N/mm², feq3 %s N/mm²", feq2.text, feq3.text); break;
     case 11: snprintf(f.text, sizeof f.text, "axial load %s kN", load.text); break;
     case 12: return bars_of(s);
+    case 20: snprintf(f.text, sizeof f.text, "hf %u mm, bf %u mm, b %u mm, h %u mm", s->hf, s->bf, s->b, s->h); break;
     default: snprintf(f.text, sizeof f.text, "Asw %u mm², s %u mm", s->asw, s->s);
     }
     return f;

@@ -29,10 +29,14 @@ section section_of(const uint8_t *record, size_t len)
         .asw = field(record, 16),
         .s = field(record, 18),
         .m = field(record, 20),
-        .zero = field(record, 22),
+        .hf = field(record, 22),
     };
     for (unsigned j = 0; j < s.m; j++)
         s.layers[j] = (layer){field(record, 24 + 4 * j), field(record, 26 + 4 * j)};
+    if (s.hf > 0) {
+        s.bf = field(record, 24 + 4 * s.m);
+        s.zero = field(record, 26 + 4 * s.m);
+    }
     return s;
 }
 

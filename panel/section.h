@@ -5,20 +5,21 @@
 #include <stddef.h>
 #include <stdint.h>
 
-enum { MOST_LAYERS = 8, MOST_DEPTHS = 1000 };
+enum { MOST_LAYERS = 8, MOST_BYTES = 60, MOST_DEPTHS = 1000 };
 
 typedef struct {
     unsigned depth, area;
 } layer;
 
-/* A record and its fields, by the header's table. */
+/* A record and its fields, by the header's table; bf and the zero are 0 where it has none. */
 typedef struct {
     const uint8_t *record;
     size_t len;
     unsigned b, h, fck, fyk, feq2, feq3;
     int32_t load;
-    unsigned asw, s, m, zero;
+    unsigned asw, s, m, hf;
     layer layers[MOST_LAYERS];
+    unsigned bf, zero;
 } section;
 
 typedef struct {
@@ -31,7 +32,7 @@ typedef struct {
     depth depths[MOST_DEPTHS];
 } list;
 
-/* The section of a record that a good book has, so that its length is 24 + 4m and m at most 8. */
+/* The section of a record that a good book has, so that m is at most 8 and its length is the one that m and hf say. */
 section section_of(const uint8_t *record, size_t len);
 
 const list *list_of(const section *s);

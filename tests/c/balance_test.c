@@ -1,5 +1,5 @@
 /* fw_imbalance, fw_moment and fw_depths as the panel's program calls them: document 01's figures, several depths, two layers below
- * mid-height, a zero at the last depth, rows too short, just long enough and longer, and each refusal. */
+ * mid-height, a flange, a zero at the last depth, rows too short, just long enough and longer, and each refusal. */
 #include "fordwhistle.h"
 
 #include "check.h"
@@ -93,6 +93,23 @@ static void the_strain_takes_the_deepest_layer_and_s1_the_centroid(void)
     CHECK(lists(girder, ROOM, list, 1));
 }
 
+/* One of the five depths lies within the flange, one just at its underside. A flange that is no wider than the web is none. */
+static void the_flange_has_its_own_width(void)
+{
+    static const section low = {.b = 310, .h = 100, .fck = 20, .fyk = 500, .feq2 = 14500, .feq3 = 19000, .m = 2,
+                                .layers = {{5, 840}, {52, 820}}, .hf = 23, .bf = 610};
+    static const int64_t list[] = {63, 2, 342369284200}, about_its_underside[] = {
+        21, 2, 44268101360, 23, 2, 46559886710, 24, 2, 47701188040, 25, 2, 48671039050, 26, 2, 49862655670,
+    };
+    CHECK(gives(rib, 40, -347694800, 230065267200));
+    CHECK(gives(rib, 81, 266061000, 424275915000));
+    CHECK(lists(rib, ROOM, list, 1));
+    CHECK(lists(low, ROOM, about_its_underside, 5));
+    CHECK(gives(with_flange(rib, 1, 800), 40, -513373400, 166419090600));
+    CHECK(gives(with_flange(rib, 399, 800), 40, -483966800, 234392781600));
+    CHECK(lists(with_flange(softening, 139, 600), ROOM, five, 5));
+}
+
 /* The last depth has no next one: it is listed where its imbalance is zero, and not where that is 1 N less. */
 static void the_last_depth_is_listed_as_a_zero_only(void)
 {
@@ -128,9 +145,9 @@ static void depths_have_their_limits(void)
 /* Each line comes before a depth off the grid, before 14 (such a load leaves no depth to list) and so before a row too short. */
 static void the_first_line_that_holds_refuses(void)
 {
-    for (uint32_t line = 6; line <= 13; line++) {
-        CHECK(refuses_depth(wrong_from(line), 0, line));
-        CHECK(refuses_row(wrong_from(line), 0, line, 0));
+    for (int i = 0; i < LINES; i++) {
+        CHECK(refuses_depth(wrong_from(lines[i]), 0, lines[i]));
+        CHECK(refuses_row(wrong_from(lines[i]), 0, lines[i], 0));
     }
     CHECK(refuses_depth(wrong_from(18), 0, 18));
     CHECK(refuses_row(wrong_from(14), 0, 14, 0));
@@ -141,6 +158,7 @@ int main(void)
     the_figures();
     every_depth_is_listed();
     the_strain_takes_the_deepest_layer_and_s1_the_centroid();
+    the_flange_has_its_own_width();
     the_last_depth_is_listed_as_a_zero_only();
     a_row_has_its_length();
     depths_have_their_limits();

@@ -45,11 +45,17 @@ static inline void add_end(book *b, uint32_t index, uint32_t n)
     b->len += 4;
 }
 
-/* Ends a book of records with its index, by their layer counts, and its last 16 bytes. */
+/* The length of a record by its layer count and its flange. */
+static inline uint32_t length_of(const uint8_t *bytes)
+{
+    return 24 + 4 * (uint32_t)bytes[20] + (bytes[22] != 0 || bytes[23] != 0 ? 4 : 0);
+}
+
+/* Ends a book of records with its index and its last 16 bytes. */
 static inline void add_index(book *b)
 {
     uint32_t index = (uint32_t)b->len, n = 0;
-    for (uint32_t at = 0; at < index; at += 24 + 4 * (uint32_t)b->bytes[at + 20], n++)
+    for (uint32_t at = 0; at < index; at += length_of(b->bytes + at), n++)
         add_number(b, at);
     add_end(b, index, n);
 }

@@ -171,14 +171,36 @@ static void a_record_is_at_its_place(void)
 }
 
 /* The beam stops short of the index, or runs past it. 257 has a layer count of 1 in its first byte, 16385 is one where four times as much
- * is cut to 16 bits. */
+ * is cut to 16 bits. A flange height is in the upper 16 bits: 7, and 256, which has a first byte of 0. */
 static void a_record_ends_where_the_next_starts(void)
 {
-    static const uint32_t layers[] = {0, 2, 8, 9, 257, 16385, 65535};
+    static const uint32_t layers[] = {0, 2, 8, 9, 257, 16385, 65535}, flanges[] = {7u << 16, 256u << 16};
     for (size_t i = 0; i < sizeof layers / sizeof *layers; i++)
         CHECK(refuses_with(44, layers[i], 4));
     CHECK(refuses_with(20, 1, 4));
     CHECK(refuses_with(20, 7, 4));
+    for (size_t i = 0; i < sizeof flanges / sizeof *flanges; i++) {
+        CHECK(refuses_with(20, flanges[i], 4));
+        CHECK(refuses_with(44, flanges[i] + 1, 4));
+    }
+}
+
+/* What it is, and its zero, are not looked at. */
+static void a_flange_takes_four_bytes(void)
+{
+    book b = {0};
+    section s = with_flange(rib, UINT16_MAX, 0);
+    s.zero = UINT16_MAX;
+    add_record(&b, rib);
+    add_record(&b, plate);
+    add_record(&b, with_flange(plate, 256, 1000));
+    add_record(&b, s);
+    add_index(&b);
+    CHECK(counts(b.bytes, b.len, 0, 4));
+    CHECK(finds(b.bytes, b.len, 0, 0, 0, 32));
+    CHECK(finds(b.bytes, b.len, 1, 0, 32, 24));
+    CHECK(finds(b.bytes, b.len, 2, 0, 56, 28));
+    CHECK(finds(b.bytes, b.len, 3, 0, 84, 32));
 }
 
 /* The index starts within its first 24 bytes. */
@@ -256,6 +278,7 @@ int main(void)
     the_index_starts_where_the_last_record_ends();
     a_record_is_at_its_place();
     a_record_ends_where_the_next_starts();
+    a_flange_takes_four_bytes();
     a_record_that_is_cut_runs_past_the_index();
     nine_layers_are_refused();
     each_record_of_many_is_looked_at();

@@ -73,8 +73,8 @@ static void no_fibre_help_is_plus_zero(void)
 
 static void the_first_line_that_holds_refuses(void)
 {
-    for (uint32_t line = 6; line <= 13; line++)
-        CHECK(refuses(wrong_from(line), 3501, line));
+    for (int i = 0; i < LINES; i++)
+        CHECK(refuses(wrong_from(lines[i]), 3501, lines[i]));
     CHECK(refuses(wrong_from(18), 3501, 18));
     CHECK(gives(wrong_from(18), 3500, 17000));
 }
@@ -100,6 +100,20 @@ static void bars_have_their_limits(void)
     CHECK(refuses(with_layers(figures, 200, 1, 200, 1), 2000, 12));
     CHECK(refuses(with_layers(figures, 201, 1, 200, 1), 2000, 12));
     CHECK(refuses(with_layers(figures, 1, 1, 125, 1), 2000, 12));
+}
+
+/* 256 is a height of 0 in its first byte. */
+static void a_flange_has_its_limits(void)
+{
+    CHECK(gives(with_flange(figures, 1, 1000), 2000, 17000));
+    CHECK(gives(with_flange(figures, 249, 2000), 2000, 17000));
+    CHECK(refuses(with_flange(figures, 250, 2000), 2000, 20));
+    CHECK(refuses(with_flange(figures, 256, 2000), 2000, 20));
+    CHECK(refuses(with_flange(figures, UINT16_MAX, 2000), 2000, 20));
+    CHECK(refuses(with_flange(figures, 249, 999), 2000, 20));
+    CHECK(refuses(with_flange(figures, 249, 0), 2000, 20));
+    CHECK(refuses(with_flange(figures, 249, 2001), 2000, 20));
+    CHECK(refuses(with_flange(figures, 249, UINT16_MAX), 2000, 20));
 }
 
 static void strains_have_their_limits(void)
@@ -135,6 +149,13 @@ static void a_record_has_its_length(void)
     CHECK(refuses(nine, 2000, 6));
 }
 
+static void a_zero_has_two_bytes(void)
+{
+    section s = with_flange(figures, 7, 1000);
+    s.zero = 256;
+    CHECK(refuses(s, 2000, 6));
+}
+
 int main(void)
 {
     the_figures();
@@ -144,7 +165,9 @@ int main(void)
     the_first_line_that_holds_refuses();
     a_negative_load_has_its_limit();
     bars_have_their_limits();
+    a_flange_has_its_limits();
     strains_have_their_limits();
     a_record_has_its_length();
+    a_zero_has_two_bytes();
     return verdict();
 }

@@ -6,8 +6,20 @@
 
 #include "sections.h"
 
-/* Where the sample's records start, and where the last ends. */
-static const uint32_t places[] = {0, 24, 52};
+/* Two records, one after the other: where they start, and where the second ends. */
+typedef struct {
+    uint32_t places[3];
+    uint8_t bytes[64];
+} pair;
+
+static pair pair_of(section first, section second)
+{
+    record r = record_of(first), then = record_of(second);
+    pair p = {.places = {0, (uint32_t)r.len, (uint32_t)(r.len + then.len)}};
+    memcpy(p.bytes, r.bytes, r.len);
+    memcpy(p.bytes + r.len, then.bytes, then.len);
+    return p;
+}
 
 static int is_counted(fw_book_answer answer, uint32_t refusal, uint32_t count)
 {
@@ -51,10 +63,10 @@ static void a_null_pointer_is_an_empty_book(void)
 
 static void a_refused_section_is_not_written(void)
 {
-    for (uint32_t line = 6; line <= 13; line++) {
-        record r = record_of(wrong_from(line));
+    for (int i = 0; i < LINES; i++) {
+        record r = record_of(wrong_from(lines[i]));
         for (size_t room = 0; room <= 80; room++)
-            CHECK(writes(r.bytes, r.len, room, line, book_of(plate, 0)));
+            CHECK(writes(r.bytes, r.len, room, lines[i], book_of(plate, 0)));
     }
 }
 
@@ -68,7 +80,7 @@ static void a_book_has_its_length(void)
             CHECK(refuses_lent_book(bytes, len, 1));
 }
 
-static int is_good(const book *b, uint32_t n)
+static int is_good(const book *b, const uint32_t *places, uint32_t n)
 {
     uint8_t *copy = lent(edge, b->bytes, b->len);
     int good = is_counted(fw_book(copy, b->len), 0, n) && is_found(fw_record(copy, b->len, n), 5, 0, 0);
@@ -77,37 +89,38 @@ static int is_good(const book *b, uint32_t n)
     return kept(copy, b->bytes, b->len) && good;
 }
 
-/* As much of the sample as comes before an index of n records, and right last 16 bytes. */
-static void a_book_is_read_within_its_length(void)
+/* As much of two records as comes before an index of n, and right last 16 bytes. */
+static void a_book_is_read_within_its_length(pair p)
 {
-    for (uint32_t len = 16; len <= 80; len++)
+    for (uint32_t len = 16; len <= 88; len++)
         for (uint32_t n = 0; 16 + 4 * n <= len; n++) {
+            uint32_t index = len - 16 - 4 * n;
             book b = {0};
-            memcpy(b.bytes, sample, sizeof sample);
-            b.len = len - 16 - 4 * n;
+            memcpy(b.bytes, p.bytes, sizeof p.bytes);
+            b.len = index;
             for (uint32_t k = 0; k < n; k++)
-                add_number(&b, places[k < 2 ? k : 2]);
-            add_end(&b, len - 16 - 4 * n, n);
-            if ((len == 16 && n == 0) || (len == 44 && n == 1) || (len == 76 && n == 2))
-                CHECK(is_good(&b, n));
+                add_number(&b, p.places[k < 2 ? k : 2]);
+            add_end(&b, index, n);
+            if (n <= 2 && index == p.places[n])
+                CHECK(is_good(&b, p.places, n));
             else
                 CHECK(refuses_lent_book(b.bytes, b.len, 4));
         }
 }
 
-/* The sample's records cut, and with bytes after them, into every room up to that of the sample and a few more. */
-static void a_book_is_written_within_its_room(void)
+/* Two records cut, and with bytes after them, into every room up to that of their book and a few more. */
+static void a_book_is_written_within_its_room(pair p)
 {
-    for (size_t len = 0; len <= 60; len++) {
-        int whole = len == 0 || len == 24 || len == 52;
+    for (size_t len = 0; len <= sizeof p.bytes; len++) {
+        int whole = len == 0 || len == p.places[1] || len == p.places[2];
         book b = {0};
         if (whole) {
-            memcpy(b.bytes, sample, len);
+            memcpy(b.bytes, p.bytes, len);
             b.len = len;
             add_index(&b);
         }
-        for (size_t room = 0; room <= 80; room++)
-            CHECK(writes(sample, len, room, !whole ? 6 : room < b.len ? 19 : 0, &b));
+        for (size_t room = 0; room <= 88; room++)
+            CHECK(writes(p.bytes, len, room, !whole ? 6 : room < b.len ? 19 : 0, &b));
     }
 }
 
@@ -148,13 +161,16 @@ static void the_longest_book(void)
 
 int main(void)
 {
+    const pair rectangles = pair_of(plate, beam), ribs = pair_of(with_flange(plate, 7, 1000), rib);
     make_room();
     for (lender = 0; lender < LENDERS; lender++) {
         a_null_pointer_is_an_empty_book();
         a_refused_section_is_not_written();
         a_book_has_its_length();
-        a_book_is_read_within_its_length();
-        a_book_is_written_within_its_room();
+        a_book_is_read_within_its_length(rectangles);
+        a_book_is_read_within_its_length(ribs);
+        a_book_is_written_within_its_room(rectangles);
+        a_book_is_written_within_its_room(ribs);
         a_refused_book_gives_zeros();
         the_longest_book();
     }

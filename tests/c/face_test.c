@@ -77,28 +77,28 @@ static int lists_nothing(section s, uint32_t refusal, uint32_t count)
 
 static void a_null_row_has_no_words(void)
 {
-    for (uint32_t line = 6; line <= 13; line++)
-        CHECK(lists_nothing(wrong_from(line), line, 0));
+    for (int i = 0; i < LINES; i++)
+        CHECK(lists_nothing(wrong_from(lines[i]), lines[i], 0));
     CHECK(lists_nothing(beam, 14, 0));
     CHECK(lists_nothing(plate, 15, 1));
 }
 
-/* The beam with so many layers, each of a depth and an area of 400 and its number. */
-static record record_with(uint16_t m)
+/* The beam with so many layers, each of a depth and an area of 400 and its number, and with a flange so high. */
+static record record_with(uint16_t m, uint16_t hf)
 {
-    section s = beam;
+    section s = with_flange(beam, hf, 400);
     s.m = m;
     for (uint16_t j = 0; j < LAYERS; j++)
         s.layers[j].depth = s.layers[j].area = 400 + j;
     return record_of(s);
 }
 
-/* A record of 0 to 9 layers at every length that one may have and a few more. */
-static void a_record_has_its_length(void)
+/* A record of 0 to 9 layers, without a flange and with one, at every length that one may have and a few more. */
+static void a_record_has_its_length(uint16_t hf)
 {
     for (uint16_t m = 0; m <= 9; m++) {
-        record r = record_with(m);
-        for (size_t len = 0; len <= 60; len++) {
+        record r = record_with(m, hf);
+        for (size_t len = 0; len <= 64; len++) {
             uint8_t *copy = lent(edge, r.bytes, len);
             CHECK(fw_draw(copy, len, 0).refusal == (len == r.len && m <= 8 ? 0 : 6));
             CHECK(kept(copy, r.bytes, len));
@@ -109,12 +109,12 @@ static void a_record_has_its_length(void)
 }
 
 /* The same, into every room up to that of the longest record and a few more. */
-static void a_layer_is_added_within_its_room(void)
+static void a_layer_is_added_within_its_room(uint16_t hf)
 {
     for (uint16_t m = 0; m <= 9; m++) {
-        record r = record_with(m), longer = record_with(m + 1);
-        for (size_t len = 0; len <= 60; len++)
-            for (size_t room = 0; room <= 60; room++) {
+        record r = record_with(m, hf), longer = record_with(m + 1, hf);
+        for (size_t len = 0; len <= 64; len++)
+            for (size_t room = 0; room <= 64; room++) {
                 uint32_t refusal = len != r.len || m > 8 ? 6 : m == 8 ? 12 : room < longer.len ? 19 : 0;
                 CHECK(adds(r.bytes, len, 400 + m, room, refusal, &longer));
             }
@@ -123,10 +123,10 @@ static void a_layer_is_added_within_its_room(void)
 
 static void a_refused_section_gives_zeros(void)
 {
-    for (uint32_t line = 6; line <= 13; line++) {
-        record r = record_of(wrong_from(line));
+    for (int i = 0; i < LINES; i++) {
+        record r = record_of(wrong_from(lines[i]));
         for (size_t words = 0; words <= WORDS; words++)
-            CHECK(refuses_lent(r.bytes, r.len, line, words));
+            CHECK(refuses_lent(r.bytes, r.len, lines[i], words));
     }
 }
 
@@ -192,8 +192,10 @@ int main(void)
     for (lender = 0; lender < LENDERS; lender++) {
         a_null_pointer_is_an_empty_record();
         a_null_row_has_no_words();
-        a_record_has_its_length();
-        a_layer_is_added_within_its_room();
+        for (uint16_t hf = 0; hf <= 1; hf++) {
+            a_record_has_its_length(hf);
+            a_layer_is_added_within_its_room(hf);
+        }
         a_refused_section_gives_zeros();
         the_answers_of_a_record();
         a_row_has_its_length();

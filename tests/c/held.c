@@ -131,11 +131,11 @@ static size_t wrong_byte(void)
     return at;
 }
 
-/* As much of a record as one of 8 layers has, or of a book. Who writes the cases reads no line before the last of them, so few bytes may
- * wait there. */
+/* As much of a record as one of 8 layers and a flange has, or of a book. Who writes the cases reads no line before the last of them, so
+ * few bytes may wait there. */
 static void print_start(const uint8_t *bytes, size_t len)
 {
-    for (size_t i = 0; i < len && i < 56; i++)
+    for (size_t i = 0; i < len && i < 60; i++)
         printf("%02x", bytes[i]);
 }
 

@@ -1,4 +1,5 @@
-/* fw_add_layer as the panel's program calls it: layers in any order, each way to 12, the tests that it leaves to others, and its room. */
+/* fw_add_layer as the panel's program calls it: layers in any order, without a flange and with one, each way to 12, the tests that it
+ * leaves to others, and its room. */
 #include "fordwhistle.h"
 
 #include <string.h>
@@ -6,8 +7,8 @@
 #include "check.h"
 #include "sections.h"
 
-/* 56 bytes hold every record; a few more stay. */
-enum { LONGEST_RECORD = 56, ROOM = 60, UNWRITTEN = 0xa5 };
+/* 60 bytes hold every record; a few more stay. */
+enum { LONGEST_RECORD = 60, ROOM = 64, UNWRITTEN = 0xa5 };
 
 /* It has as many layers as a section may. */
 static const section full = {.b = 50, .h = 250, .fck = 30, .fyk = 500, .m = 8,
@@ -62,21 +63,29 @@ static section without_layers(section s)
 }
 
 /* From each of the eight on, in steps of 1, 3, 5 and 7 round: rising, falling and mixed. What was written is handed on as it is. */
-static void layers_come_in_any_order(void)
+static void come_in_any_order(section s)
 {
-    record whole = record_of(full);
+    record whole = record_of(s);
     for (size_t from = 0; from < 8; from++)
         for (size_t step = 1; step < 8; step += 2) {
-            record r = record_of(without_layers(full));
+            record r = record_of(without_layers(s));
             for (size_t k = 0, j = from; k < 8; k++, j = (j + step) % 8) {
                 record longer = {0};
-                fw_written added = fw_add_layer(r.bytes, r.len, full.layers[j].depth, full.layers[j].area, longer.bytes, LONGEST_RECORD);
+                fw_written added = fw_add_layer(r.bytes, r.len, s.layers[j].depth, s.layers[j].area, longer.bytes, LONGEST_RECORD);
                 longer.len = added.len;
                 CHECK(added.refusal == 0 && added.len == r.len + 4);
                 r = longer;
             }
-            CHECK(r.len == LONGEST_RECORD && memcmp(r.bytes, whole.bytes, LONGEST_RECORD) == 0);
+            CHECK(r.len == whole.len && memcmp(r.bytes, whole.bytes, whole.len) == 0);
         }
+}
+
+static void layers_come_in_any_order(void)
+{
+    section s = with_flange(full, 256, 0x0107);
+    CHECK(record_of(s).len == LONGEST_RECORD);
+    come_in_any_order(full);
+    come_in_any_order(s);
 }
 
 /* The beam without its bars, and with them again: it is the record of the sample. */
@@ -137,7 +146,7 @@ static void the_layers_there_are_right(void)
     CHECK(refuses_anywhere(with_layers(plate, 60, 1, 40, 1)));
 }
 
-/* Of a section that is wrong in each line from 7 to 13, in 12 by mid-height alone, and stays so. */
+/* Of a section that is wrong in each line after 6, in 12 by mid-height alone, and stays so. */
 static void no_other_test_is_made(void)
 {
     section s = wrong_from(7);
@@ -162,7 +171,7 @@ static void a_record_needs_its_room(void)
 /* With no room; one that is refused 6 is wrong in 12 too. */
 static void the_first_line_that_holds_refuses(void)
 {
-    section s = with_layers(plate, 40, 1, 40, 1);
+    section s = with_flange(with_layers(plate, 40, 1, 40, 1), 7, 1000);
     record r = record_of(s), good = record_of(beam);
     CHECK(adds(&r, 60, 1, 0, 12, NULL));
     s.zero = 1;

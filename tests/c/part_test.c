@@ -38,19 +38,21 @@ static void a_part_goes_on_as_it_is(void)
     }
 }
 
-/* A book of sections that are refused 6 to 13 and of one that is accepted is good. */
+/* A book of sections that are refused by each line and of one that is accepted is good. */
 static void what_else_a_record_holds_is_refused_later(void)
 {
     book b = {0};
-    for (uint32_t line = 6; line <= 14; line++)
-        add_record(&b, wrong_from(line));
+    for (uint32_t k = 0; k < LINES; k++)
+        add_record(&b, wrong_from(lines[k]));
+    add_record(&b, wrong_from(0));
     add_index(&b);
-    CHECK(fw_book(b.bytes, b.len).count == 9);
-    for (uint32_t line = 6; line <= 14; line++) {
-        fw_record_answer part = fw_record(b.bytes, b.len, line - 6);
-        CHECK(part.refusal == 0 && part.at == 28 * (line - 6) && part.len == 28);
+    CHECK(fw_book(b.bytes, b.len).count == LINES + 1);
+    for (uint32_t k = 0; k <= LINES; k++) {
+        uint32_t line = k < LINES ? lines[k] : 0;
+        fw_record_answer part = fw_record(b.bytes, b.len, k);
+        CHECK(part.refusal == 0 && part.at == 32 * k && part.len == 32);
         CHECK(answers_alike(b.bytes + part.at, part.len, wrong_from(line)));
-        CHECK(fw_shear(b.bytes + part.at, part.len).refusal == (line <= 13 ? line : 0));
+        CHECK(fw_shear(b.bytes + part.at, part.len).refusal == line);
     }
 }
 

@@ -41,6 +41,7 @@ static void the_figures(void)
 {
     CHECK(refuses(plate, 16));
     CHECK(gives(beam, 1069200000));
+    CHECK(gives(rib, 87696000));
 }
 
 /* The bytes of the beam, with none after them. */
@@ -140,6 +141,17 @@ static void tension_leaves_the_fibres(void)
     CHECK(gives(s, 36990000));
 }
 
+/* Its area is 180000 mm2, so that it takes 1200 N to make 1 kPa. */
+static void a_load_is_spread_over_the_flange_too(void)
+{
+    section s = with_flange(joist, 100, 600);
+    CHECK(gives(s, 84780000));
+    CHECK(gives(with_load(s, 1200), 84915000));
+    CHECK(gives(with_load(s, 1199), 84780000));
+    CHECK(gives(with_load(s, -1200), 84645000));
+    CHECK(gives(with_load(s, -1201), 84510000));
+}
+
 /* t is 239.88 before it is rounded. From a d of 600 on the fibres bear just t. */
 static void fibres_are_rounded_twice(void)
 {
@@ -149,6 +161,32 @@ static void fibres_are_rounded_twice(void)
     CHECK(gives(s, 121770000));
     CHECK(gives(deep, 183330000));
     CHECK(gives(with_stirrups(with_load(s, -123456), 157, 200), 243258067));
+}
+
+/* kf is 1222, by bf - b and by 3 hf alike, then 1148 by bf - b, 1222 by 3 hf and 1315 by 3 b; 1498, 1500 and, where it would be more, 1500;
+ * and 1000. The first three are 1 kPa more than if the share were rounded before kf too. */
+static void a_flange_helps_the_fibres(void)
+{
+    static const section slender = {.b = 50, .h = 1000, .fck = 30, .fyk = 500, .feq3 = 1999, .m = 1, .layers = {{950, 500}}};
+    section s = joist;
+    s.feq3 = 1999;
+    CHECK(gives(with_flange(s, 100, 600), 130005000));
+    CHECK(gives(with_flange(s, 100, 500), 127305000));
+    CHECK(gives(with_flange(s, 100, 2000), 130005000));
+    CHECK(gives(with_flange(slender, 100, 400), 41135000));
+    CHECK(gives(with_flange(s, 150, 749), 140265000));
+    CHECK(gives(with_flange(s, 150, 750), 140400000));
+    CHECK(gives(with_flange(s, 250, 2000), 140400000));
+    CHECK(gives(with_flange(s, 499, 300), 121770000));
+}
+
+/* The stirrups, the struts and 2 % are the web's. */
+static void a_flange_helps_nothing_else(void)
+{
+    section s = with_flange(joist, 100, 600);
+    CHECK(gives(with_stirrups(s, 157, 200), 223008067));
+    CHECK(gives(with_stirrups(s, 157, 1), 744176868));
+    CHECK(gives(with_area(s, 5400), 111105000));
 }
 
 static void stirrups_have_a_spacing(void)
@@ -162,8 +200,8 @@ static void stirrups_have_a_spacing(void)
 static void the_first_line_that_holds_refuses(void)
 {
     section s = wrong_from(13);
-    for (uint32_t line = 6; line <= 13; line++)
-        CHECK(refuses(wrong_from(line), line));
+    for (int i = 0; i < LINES; i++)
+        CHECK(refuses(wrong_from(lines[i]), lines[i]));
     CHECK(gives(wrong_from(14), 31185000));
     s.m = 0;
     CHECK(refuses(s, 13));
@@ -182,8 +220,11 @@ int main(void)
     roots_have_a_limit_and_may_be_exact();
     roots_give_the_figures();
     a_tensile_share_goes_towards_minus_infinity();
+    a_load_is_spread_over_the_flange_too();
     tension_leaves_the_fibres();
     fibres_are_rounded_twice();
+    a_flange_helps_the_fibres();
+    a_flange_helps_nothing_else();
     stirrups_have_a_spacing();
     the_first_line_that_holds_refuses();
     return verdict();

@@ -72,7 +72,7 @@ static void no_section_is_a_book(void)
     CHECK(writes(sample, 0, none, sizeof none));
 }
 
-/* Of 0 to 8 layers and each of another height. The records are the head of their book. */
+/* Of 0 to 8 layers, without a flange and with one, and each of another height. The records are the head of their book. */
 static void sections_are_written_in_order(void)
 {
     book b = {0};
@@ -81,6 +81,8 @@ static void sections_are_written_in_order(void)
         section s = eight;
         s.m = k % 9;
         s.h = 50 + k;
+        if (k >= 9)
+            s = with_flange(s, k, 2000);
         for (uint16_t j = 0; j < s.m; j++)
             s.layers[j].depth = (uint16_t)(41 + k + j);
         add_record(&b, s);
@@ -111,6 +113,7 @@ static void without_stirrups_there_is_no_spacing(void)
 {
     CHECK(writes_as(with_stirrups(plate, 0, 7), plate));
     CHECK(writes_as(with_stirrups(beam, 0, UINT16_MAX), beam));
+    CHECK(writes_as(with_stirrups(rib, 0, 7), rib));
     CHECK(writes_as(with_stirrups(plate, 256, 7), with_stirrups(plate, 256, 7)));
     CHECK(writes_as(with_stirrups(plate, 1, 256), with_stirrups(plate, 1, 256)));
 }
@@ -127,10 +130,11 @@ static void a_bad_section_comes_before_the_room(void)
 /* Behind good ones and before worse, the last of which may be cut. */
 static void the_first_bad_section_refuses(void)
 {
-    for (uint32_t line = 6; line <= 13; line++) {
+    for (int i = 0; i < LINES; i++) {
+        uint32_t line = lines[i];
         book b = {0};
         add_record(&b, plate);
-        add_record(&b, wrong_from(14));
+        add_record(&b, wrong_from(0));
         add_record(&b, wrong_from(line));
         CHECK(refuses(b.bytes, b.len, line));
         add_record(&b, wrong_from(line == 6 ? 13 : 6));
@@ -138,6 +142,14 @@ static void the_first_bad_section_refuses(void)
         CHECK(refuses(b.bytes, b.len, line));
         CHECK(refuses(b.bytes, b.len - 1, line));
     }
+}
+
+/* Where its four bytes are left out, those of the next record are taken for them, and the zero is not zero. */
+static void a_flange_takes_four_bytes(void)
+{
+    size_t len = repeat(plate, 2);
+    put(records + 22, 2, 7);
+    CHECK(refuses(records, len, 6));
 }
 
 /* 256 is a layer count of 0 in its first byte, 16384 is one where four times as much is cut to 16 bits. There are bytes enough after the
@@ -173,6 +185,7 @@ int main(void)
     without_stirrups_there_is_no_spacing();
     a_bad_section_comes_before_the_room();
     the_first_bad_section_refuses();
+    a_flange_takes_four_bytes();
     a_layer_count_has_its_limit();
     the_records_may_be_longer_than_a_book();
     return verdict();

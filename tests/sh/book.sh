@@ -13,14 +13,26 @@ numbers() {
     done
 }
 
-# one_record B H FCK FYK FEQ2 FEQ3 LOAD ASW S [DEPTH AREA]..: the book of one section.
+# one_record B H FCK FYK FEQ2 FEQ3 LOAD ASW S [DEPTH AREA].. [flange HF BF [ZERO]]: the book of one section.
 one_record() {
-    local len=$((24 + 2 * ($# - 9)))
-    numbers 2 "${@:1:6}"
-    numbers 4 "$7"
-    numbers 2 "$8" "$9" $((($# - 9) / 2)) 0 "${@:10}"
+    local first=("${@:1:9}") layers=() hf=0 bf=() len
+    shift 9
+    while [ $# -gt 0 ] && [ "$1" != flange ]; do
+        layers+=("$1" "$2")
+        shift 2
+    done
+    [ $# -eq 0 ] || { hf=$2 && bf=("$3" "${4-0}"); }
+    len=$((24 + 2 * (${#layers[@]} + ${#bf[@]})))
+    numbers 2 "${first[@]:0:6}"
+    numbers 4 "${first[6]}"
+    numbers 2 "${first[@]:7}" $((${#layers[@]} / 2)) "$hf" "${layers[@]}" "${bf[@]}"
     numbers 4 0 "$len" 1 $((len + 20))
     printf 'BOOK'
+}
+
+# The section of examples/rib.txt.
+rib() {
+    one_record 200 400 30 500 2000 2000 100000 0 0 360 1000 flange 80 800
 }
 
 # Bars near the compressed face and a load that pulls: its moment is below zero.

@@ -1,5 +1,5 @@
 #!/usr/bin/env bash
-# examples/depths.c on the sample book, on a book with a negative moment, on the longest, and on what is no book.
+# examples/depths.c on the sample book, on books with a negative moment and with a rib, on the longest, and on what is no book.
 set -u
 cd "$(dirname "$0")/../.." || exit 1
 . tests/sh/check.sh
@@ -26,6 +26,13 @@ check 'sample' gives 0 examples/depths.stdout "$depths" crates/booklines/stdin
 pulled >"$book"
 expect 'record 0: 1 depth' '  x 9 mm, kind 2, moment -121856.6261500 N m' '  shear 0.000 N'
 check 'negative moment' gives 0 "$expected" "$depths" "$book"
+
+rib >"$book"
+expect 'record 0: 1 depth' '  x 63 mm, kind 2, moment 171184.6421000 N m' '  shear 87696.000 N'
+check 'rib' gives 0 "$expected" "$depths" "$book"
+one_record 200 400 30 500 2000 2000 100000 0 0 360 1000 flange 400 800 >"$book"
+expect 'record 0: refused 20, flange' '  shear refused 20, flange'
+check 'flange as high as the section' gives 0 "$expected" "$depths" "$book"
 
 longest >"$book"
 for ((k = 0; k < 2340; k++)); do

@@ -18,6 +18,10 @@ one_record 1000 120 40 500 20000 11000 -439304 0 0 61 1000 >"$made/several.book"
 one_record 1361 999 40 500 19871 10886 -1602589 0 0 502 2245 504 1424 >"$made/many.book"
 one_record 400 600 30 500 2000 2000 500000 157 200 40 402 110 226 180 226 250 226 330 226 410 226 500 628 550 1608 >"$made/eight.book"
 one_record 50 1000 30 500 0 20000 0 157 200 960 402 965 226 970 226 980 226 985 1608 >"$made/narrow.book"
+# Ribs: the first is drawn whole, of the second the flange is cut, and of the third there is only a piece of the web.
+rib >"$made/rib.book"
+one_record 300 600 30 500 2000 2000 0 157 200 30 402 60 226 90 226 500 628 550 1608 flange 100 2000 >"$made/cut_rib.book"
+one_record 310 100 20 500 14500 19000 0 157 200 5 840 52 820 flange 23 610 >"$made/low_rib.book"
 # Its depth is the last, h.
 one_record 1000 100 30 500 3700 4500 1376184 157 200 >"$made/wide.book"
 one_record 300 300 30 500 2000 2000 0 0 0 30 402 30 402 90 226 120 226 150 226 180 226 210 226 270 65535 >"$made/bars.book"
@@ -81,11 +85,12 @@ every_depth() {
         [ "$(grep -c 'x2="269.0".*"2.5"' target/tests/printed) $(grep -c 'x2="269.0".*"1.0"' target/tests/printed)" = "1 $(($2 - 1))" ]
 }
 
-# with BYTE AT: the sample book with another byte there.
+# with BYTE AT [BOOK]: the book, the sample if none is named, with another byte there.
 with() {
-    head -c "$2" "$sample"
+    local book=${3-$sample}
+    head -c "$2" "$book"
     numbers 1 "$1"
-    tail -c +$(($2 + 2)) "$sample"
+    tail -c +$(($2 + 2)) "$book"
 }
 
 # refuses NUMBER [RECORD]: whether the book on standard input is refused so. The words of its sheet are added to all the refused ones'.
@@ -94,14 +99,16 @@ refuses() {
     drawn 1 "$made/refused.book" "${@:2}" && shows "refused: $1" && sed -nE 's/.*>(.*)<\/text>/\1/p' target/tests/printed >>"$made/refusals.txt"
 }
 
-# Each byte of the sample book changed, and the book cut there: no sheet fails.
+# damaged BOOK LEN: each byte of the book, whose first record has so many, changed, and the book cut there: no sheet fails.
 damaged() {
-    local at byte
-    for ((at = 0; at < 76; at++)); do
-        byte=$(od -An -tu1 -j"$at" -N1 "$sample")
-        with $((255 - byte)) "$at" >"$made/damaged.book"
-        head -c "$at" "$sample" >"$made/short.book"
-        { drawn 0 "$made/damaged.book" $((at / 24 % 2)) || drawn 1 "$made/damaged.book" $((at / 24 % 2)); } && drawn 1 "$made/short.book" || return 1
+    local at byte number size
+    size=$(wc -c <"$1")
+    for ((at = 0; at < size; at++)); do
+        byte=$(od -An -tu1 -j"$at" -N1 "$1")
+        number=$((at / $2 % 2))
+        with $((255 - byte)) "$at" "$1" >"$made/damaged.book"
+        head -c "$at" "$1" >"$made/short.book"
+        { drawn 0 "$made/damaged.book" "$number" || drawn 1 "$made/damaged.book" "$number"; } && drawn 1 "$made/short.book" || return 1
     done
 }
 
@@ -138,6 +145,8 @@ check 'several depths' golden_sheet 0 docs/sheet.svg "$made/several.book"
 check 'eight layers' golden_sheet 0 tests/sheets/eight_layers.svg --fr1 7100 --fr3 8700 "$made/eight.book"
 check 'narrow section' golden_sheet 0 tests/sheets/narrow.svg "$made/narrow.book"
 check 'wide section' golden_sheet 0 tests/sheets/wide.svg "$made/wide.book"
+check 'rib' golden_sheet 0 tests/sheets/rib.svg "$made/rib.book"
+check 'cut rib' golden_sheet 0 tests/sheets/cut_rib.svg "$made/cut_rib.book"
 check 'refused section' golden_sheet 1 tests/sheets/refused_section.svg --fr1 1220 --fr3 1060 "$made/bars.book"
 check 'refused book' golden_sheet 1 tests/sheets/refused_book.svg "$made/cut.book"
 # The golden sheets so far were drawn under a look for leaks too, which takes seconds a run on some machines.
@@ -145,6 +154,8 @@ export ASAN_OPTIONS=detect_leaks=0
 
 check 'every depth of seven' every_depth "$made/several.book" 7
 check 'every depth of 39' every_depth "$made/many.book" 39
+check 'every depth of a rib' every_depth "$made/low_rib.book" 5
+check 'that its flange is not drawn is told' shows 'flange 610 × 23 mm (not drawn)'
 check 'a moment below zero' every_depth "$made/pulled.book" 1
 check 'it is told' shows 'is the moment to read, at x 9 mm: below zero.'
 check 'two layers below mid-height' drawn 0 "$made/two_layers.book"
@@ -166,7 +177,6 @@ done <<END
 2 0 75
 3 53 60
 4 9 20
-6 1 22
 7 29 4
 8 255 1
 9 255 7
@@ -174,10 +184,13 @@ done <<END
 11 255 15
 13 7 16
 END
+check 'refusal 6' refuses 6 < <(one_record 200 400 30 500 2000 2000 0 0 0 360 1000 flange 80 800 7)
+check 'refusal 20' refuses 20 < <(one_record 200 400 30 500 2000 2000 0 0 0 360 1000 flange 400 199)
 check 'refusal 1 of a long book' refuses 1 < <(head -c 99999 /dev/zero)
 check 'refusal 5' refuses 5 2 <"$sample"
 check 'the words of refusals' golden tests/sheets/refusals.txt "$made/refusals.txt"
-check 'damaged books' damaged
+check 'damaged books' damaged "$sample" 24
+check 'damaged ribs' damaged "$made/rib.book" 32
 
 check 'well formed' well_formed "$made"/*.svg
 check 'half a sheet is not' half_a_sheet

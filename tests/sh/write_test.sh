@@ -10,7 +10,8 @@ book='target/tests/by hand.book'
 expected=target/tests/expected
 plate='1000 100 30 500 3700 4500 0 0 0'
 bars='refused 12, bars: a depth outside 1 to h-1 or taken, an area of 0, over 8 layers, or the deepest not below mid-height'
-few='too few numbers for b h fck fyk feq2 feq3 load Asw s and pairs of depth and area'
+flange='refused 20, flange: hf not below h, bf below b, or bf over 2000'
+few='too few numbers for b h fck fyk feq2 feq3 load Asw s, pairs of depth and area, and hf bf after the word flange'
 run=(env -u BOOK -u MAKEFLAGS make -s --no-print-directory run)
 
 # writes COMMAND..: whether the text on standard input gives just the book that the command prints.
@@ -52,7 +53,11 @@ untidy() {
 
 # Each number at its limit.
 limits() {
-    one_record 2000 1000 50 600 20000 20000 10000000 65535 65535 501 65535
+    one_record 2000 1000 50 600 20000 20000 10000000 65535 65535 501 65535 flange 999 2000
+}
+
+longest_record() {
+    one_record 50 100 30 500 0 0 0 0 0 10 1 20 2 30 3 40 4 50 5 60 6 70 7 80 8 flange 1 50
 }
 
 longest() {
@@ -79,7 +84,10 @@ check 'its lines' gives 0 crates/booklines/stdout "${run[@]}" BOOK="$book"
 export ASAN_OPTIONS=detect_leaks=0
 check 'no section' writes no_section </dev/null
 check 'an untidy text' writes pulled < <(untidy)
-check 'limits' writes limits <<<'2000 1000 50 600 20000 20000 10000000 65535 65535 501 65535'
+check 'limits' writes limits <<<'2000 1000 50 600 20000 20000 10000000 65535 65535 501 65535 flange 999 2000'
+check 'a rib' writes rib <examples/rib.txt
+check 'the longest record' writes longest_record <<<'50 100 30 500 0 0 0 0 0 80 8 10 1 70 7 20 2 60 6 30 3 50 5 40 4  flange  1  50 '
+check 'a flange of no height' writes one_record 400 600 30 500 0 0 0 0 0 540 3216 <<<'400 600 30 500 0 0 0 0 0 540 3216 flange 0 7'
 check 'the longest book' longest
 check 'a section more' refuses 'refused 19, more sections than a book of 65536 bytes holds' < <(many 2341)
 check 'far more' refuses 'refused 19, more sections than a book of 65536 bytes holds' < <(many 9000)
@@ -98,9 +106,15 @@ refused 11, axial load outside -10000000 to 10000000|1000 100 30 500 3700 4500 -
 $bars|$plate 50 100
 $bars|1000 100 30 500 3700 4500 0 7 0 80 100 80 200
 $bars|$plate 81 1 82 1 83 1 84 1 85 1 86 1 87 1 88 1 89 1
+$flange|$plate flange 100 1000
+$flange|1000 100 30 0 3700 4500 0 0 0 100 1 flange 50 999
+$flange|$plate flange 50 2001
+$bars|$plate 100 1 flange 99 2000
 refused 13, stirrups without spacing: Asw is not 0 and s is|1000 100 30 500 3700 4500 0 7 0 80 100
 $few|1000 100 30 500 3700 4500 0 0
 $few|$plate 80 100 90
+$few|$plate flange
+$few|$plate 80 100 flange 50
 a number outside 0 to 65535|65536 100 30 500 3700 4500 0 0 0
 a number outside 0 to 65535|$plate 80 -1
 a number outside 0 to 65535|$plate 18446744073709551696 100
@@ -110,6 +124,13 @@ a word that is no whole number|1000 100 C30 500 3700 4500 0 0 0
 a word that is no whole number|1000 100 30.5 500 3700 4500 0 0 0
 a word that is no whole number|1000 100 30 500 3700 4500 - 0 0
 a word that is no whole number|$plate # plate
+a word that is no whole number|$plate flang
+a word that is no whole number|$plate flanges 50 1000
+a word that is no whole number|$plate flange50 1000
+a word that is no whole number|$plate 80 flange 50 1000
+a word that is no whole number|$plate flange 50 wide
+a word after the flange's hf and bf|$plate flange 50 1000 80 100
+a word after the flange's hf and bf|$plate flange 0 0 flange 0 0
 END
 
 check 'no book named' fails 'usage: book TEXT-FILE BOOK-FILE' examples/book.txt

@@ -40,7 +40,7 @@ bendingIn es = record {
   moment = leastMoment es;
 }
 
--- 7 to 13, then 14. The program's row holds every list, so there is no 15
+-- 7 to 13 with 20, then 14. The program's row holds every list, so there is no 15
 unfoldable pub bendingAnswer : Section → Bending
 bendingAnswer s = unlessRefused (depthsRefusal s) (bendingIn (listed s)) noBending
 

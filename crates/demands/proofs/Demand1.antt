@@ -45,8 +45,8 @@ use Rattle.demands.specs.Table.{Line, First, bookLines, askedLines, lone
 use Rattle.demands.specs.Demand1.{Refuses, RefusesList, RefusesBytes, Demand1}
 use Rattle.demands.proofs.Free.{free}
 use Rattle.demands.proofs.Shapes.{sections, laws, points, amounts, listings, books, places, records, filings, writings, classes, alone, of-record}
-use Rattle.demands.proofs.Table.{exactly, first-most, book-first, asked-first, lone-first, section-first, layer-first, list-first}
-use Rattle.demands.proofs.Table.{filed-first, add-first, write-first, write-numbered}
+use Rattle.demands.proofs.Table.{exactly, first-other, book-first, asked-first, lone-first, section-first, layer-first, list-first}
+use Rattle.demands.proofs.Table.{filed-first, add-first, write-first, write-lacks}
 use Rattle.demands.proofs.Table.{shear-first, class-first, strain-first, grid-first, not-fifteen}
 
 -- ---- each answer
@@ -88,7 +88,7 @@ class-refuses : (fr1 fr3 : ℕ) {x : ClassAnswer} → x ≡ classAnswer fr1 fr3 
 unfolding classAnswer
 class-refuses fr1 fr3 = alone classes (classLines fr1 fr3) (classRefusal fr1 fr3) _ refl (class-first fr1 fr3) refl
 
-filed-refuses : (s : Section) {x : RecordBytes} → x ≡ filedAnswer s → Refuses (filedLines s) (x .refusal) ((x .len ≡ 0) × (x .bytes ≡ replicate 56 0))
+filed-refuses : (s : Section) {x : RecordBytes} → x ≡ filedAnswer s → Refuses (filedLines s) (x .refusal) ((x .len ≡ 0) × (x .bytes ≡ replicate 60 0))
 unfolding filedAnswer
 filed-refuses s = alone filings (filedLines s) (filedRefusal s) _ refl (filed-first s) refl
 
@@ -100,7 +100,7 @@ module _ (r before : List ℕ) {x : Written} {after : List ℕ} where
   write-refuses : x ≡ writeAnswer r (length before) → after ≡ bookAfter r before → RefusesBytes (writeLines r (length before)) before x after
   unfolding writeAnswer bookAfter Stays
   write-refuses is left = record {
-    refuses = alone writings (writeLines r (length before)) (writeRefusal r (length before)) _ (write-numbered r (length before)) (write-first r (length before)) refl is;
+    refuses = alone writings (writeLines r (length before)) (writeRefusal r (length before)) _ (write-lacks r (length before)) (write-first r (length before)) refl is;
     bytes = rw (is, left) (of-answers (Stays before) (writeRefusal r (length before)) _ _ unwritten (λ k. before) (λ e h. absurd (h refl)) (λ k h. refl));
   }
 
@@ -146,7 +146,7 @@ module _ (r : List ℕ) (before : List ℤ) where
   list-of is left =
       let rest = of-answers (λ (v : Listing) w. (v .refusal ≡ 15 → v .count ≡ length (listed (sectionIn r))) × ((v .refusal ≡ 0 → ⊥) → w ≡ before))
       (recordRefusal r) _ _ unlisted (λ k. before) (λ e. (inner .needed, inner .row))
-      (λ h. (λ e. absurd (omega (arith, e, first-most 6 (loneLines r) (recordRefusal r) refl (lone-first r))), λ k. refl)) in
+      (λ h. (λ e. absurd (omega (arith, first-other 15 (loneLines r) refl (rw e at (lone-first r)))), λ k. refl)) in
       rw left (record { refuses = of-record listings r _ _ (inner .refuses) is; needed = rw (← is) at (rest .0); row = rw (← is) at (rest .1) })
 
 pub demand1 : Demand1

@@ -57,7 +57,7 @@ use Rattle.record.specs.Record as Record
 use Rattle.book.specs.Book.{countOf, bookRefusal, bookAnswer, askedRefusal, recordAnswer, recordOf}
 use Rattle.book.specs.Good.{Shows}
 use Rattle.book.proofs.Parts.{part-shows, place-inside, place-part}
-use Rattle.record.proofs.Places.{zero-past-count}
+use Rattle.record.proofs.Places.{zero-past-count, width-none}
 use Rattle.writer.specs.declared.Written.{Written}
 use Rattle.writer.specs.Written.{bookIn, writeRefusal, writeAnswer, bookAfter, layerRecord, addRefusal, addAnswer, recordAfter}
 use Rattle.writer.proofs.Layers.{layer-length, layer-reads}
@@ -66,7 +66,7 @@ use Rattle.class.specs.Class.{classRefusal, classAnswer}
 use Rattle.class.specs.Class as Class
 use Rattle.panel.specs.Face.{drawnOf, imbalanceOf, momentOf, listOf, rowOf, shearOf}
 use Rattle.demands.specs.Table.{First, askedLines}
-use Rattle.demands.specs.Demand2.{Between, LayerAdded, ZeroPast, ClassIs, PointIs, ListIs, PlaceIs, ReadsAs, Held, LayerPut, Demand2}
+use Rattle.demands.specs.Demand2.{Between, LayerAdded, ZeroPast, FlatIdle, ClassIs, PointIs, ListIs, PlaceIs, ReadsAs, Held, LayerPut, Demand2}
 use Rattle.demands.proofs.Shapes.{sections, points, amounts, listings, books, places, records, filings, writings, classes, grants}
 use Rattle.demands.proofs.Table.{exactly, asked-first}
 
@@ -98,7 +98,7 @@ module _ (s : Section) where
   unfolding shearAnswer
   shear-is is h = ap (λ (x : Amount). x .amount) (grants amounts (shearRefusal s) (answered (pos (resistance s))) is h .1)
 
-  list-is : (before : List ℤ) {x : Listing} {after : List ℤ} → x ≡ listAnswer s (length before) → after ≡ rowAfter s before → x .refusal ≡ 0 → ListIs s before x after
+  pub list-is : (before : List ℤ) {x : Listing} {after : List ℤ} → x ≡ listAnswer s (length before) → after ≡ rowAfter s before → x .refusal ≡ 0 → ListIs s before x after
   unfolding listAnswer
   list-is before is left h =
       let none = sym (list-number s (length before) is) ∙ h in
@@ -126,13 +126,13 @@ class-is fr1 fr3 is h = rw (grants classes (classRefusal fr1 fr3) _ is h .1) (re
 
 -- ---- of a record that is handed over as bytes
 module _ (r : List ℕ) where
-  section-is : {x : SectionAnswer} → x ≡ sectionAnswer r → x .refusal ≡ 0 → (x .section ≡ sectionIn r) × ZeroPast (x .section)
-  unfolding sectionAnswer
+  section-is : {x : SectionAnswer} → x ≡ sectionAnswer r → x .refusal ≡ 0 → (x .section ≡ sectionIn r) × ZeroPast (x .section) × FlatIdle (x .section)
+  unfolding sectionAnswer sectionIn
   section-is is h =
       let g = grants records (recordRefusal r) _ is h in
-      rw (g .1) (refl, λ j. zero-past-count r j (g .0))
+      rw (g .1) (refl, zero-past-count r, width-none r)
 
-  list-of :
+  pub list-of :
       (before : List ℤ) {x : Listing} {after : List ℤ} → x ≡ listOf r (length before) → after ≡ rowOf r before
       → x .refusal ≡ 0 → ListIs (sectionIn r) before x after
   unfolding listOf rowOf
@@ -147,12 +147,12 @@ module _ (r : List ℕ) where
       (number-is r from ∙ ok, section-there r from ok ∙ is)
 
 -- ---- and back
-filed-is : (s : Section) {x : RecordBytes} → x ≡ filedAnswer s → x .refusal ≡ 0 → (x .len ≡ recordSize (s .count)) × (Held s → ReadsAs (x .bytes) (x .len) (asRead s))
+filed-is : (s : Section) {x : RecordBytes} → x ≡ filedAnswer s → x .refusal ≡ 0 → (x .len ≡ recordSize (s .count) (s .hf)) × (Held s → ReadsAs (x .bytes) (x .len) (asRead s))
 unfolding filedAnswer
 filed-is s {x} is h =
     let few = passes 11 0 (is-most (s .count) 8) (grants filings (filedRefusal s) _ is h .0) .0 in
     let front = filed-front s is few in
-    (front .len, λ held. read-as (filed s) (x .bytes) (x .len) (front .bytes) (record-stands (filed s) .1 (filed-stands s few)) (section-filed s held))
+    (front .len, λ held. read-as (filed s) (x .bytes) (x .len) (front .bytes) (record-stands (filed s) .1 (filed-stands s few)) (section-filed s few held))
 
 module _ (r before : List ℕ) {x : Written} {after : List ℕ} where
   write-is : x ≡ writeAnswer r (length before) → after ≡ bookAfter r before → x .refusal ≡ 0 → (x .len ≡ length (bookIn r)) × (after ≡ over (bookIn r) before)

@@ -10,3 +10,5 @@ pub mod Widths
 pub mod Request1
 pub mod Request2
 pub mod Request3
+pub mod Plain
+pub mod Request4

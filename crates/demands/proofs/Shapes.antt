@@ -35,7 +35,7 @@ use Rattle.class.specs.declared.ClassAnswer.{ClassAnswer}
 use Rattle.class.specs.Class as Class
 use Rattle.demands.specs.Table.{Line, First, loneLines}
 use Rattle.demands.specs.Demand1.{Refuses}
-use Rattle.demands.proofs.Table.{exactly, numbered, then-first, lone-first}
+use Rattle.demands.proofs.Table.{exactly, lacks, then-first, lone-first}
 
 pub record Shape (X : Type 0) : Type 1 where
   pub number : X → ℕ
@@ -84,7 +84,7 @@ records = record { number = λ x. x .refusal; zeros = λ x. x .section ≡ noSec
 abbrev pub filings : Shape RecordBytes
 filings = record {
   number = λ x. x .refusal;
-  zeros = λ x. (x .len ≡ 0) × (x .bytes ≡ replicate 56 0);
+  zeros = λ x. (x .len ≡ 0) × (x .bytes ≡ replicate 60 0);
   refused = unfiled;
   bears = λ k. refl;
   none = λ k. (refl, refl);
@@ -99,12 +99,12 @@ classes = record { number = λ x. x .refusal; zeros = λ x. (x .step ≡ 0) × (
 module _ {X : Type 0} (k : Shape X) where
   -- ---- refused by lines, else what may be refused by lines after them
   then :
-      (ls ms : List Line) (n : ℕ) (y : X) → numbered 19 ls ≡ true → First ls n → Refuses ms (k .number y) (k .zeros y)
+      (ls ms : List Line) (n : ℕ) (y : X) → lacks 0 ls ≡ true → First ls n → Refuses ms (k .number y) (k .zeros y)
       → {x : X} → x ≡ unlessRefused n y (k .refused) → Refuses (ls ++ ms) (k .number x) (k .zeros x)
   then ls ms n y t f inner is = rw is (of-answer (λ v. Refuses (ls ++ ms) (k .number v) (k .zeros v)) n y (k .refused) passed stopped)
     where
       first : First (ls ++ ms) (firstOf n (k .number y))
-      first = then-first 19 ls ms n (k .number y) t f (inner .number (k .number y) .0 refl)
+      first = then-first ls ms n (k .number y) t f (inner .number (k .number y) .0 refl)
 
       passed : n ≡ 0 → Refuses (ls ++ ms) (k .number y) (k .zeros y)
       passed e = record { number = exactly (ls ++ ms) (k .number y) (rw e at first); beside = inner .beside }
@@ -114,7 +114,7 @@ module _ {X : Type 0} (k : Shape X) where
 
   -- by no other
   pub alone :
-      (ls : List Line) (n : ℕ) (y : X) → numbered 19 ls ≡ true → First ls n → k .number y ≡ 0
+      (ls : List Line) (n : ℕ) (y : X) → lacks 0 ls ≡ true → First ls n → k .number y ≡ 0
       → {x : X} → x ≡ unlessRefused n y (k .refused) → Refuses ls (k .number x) (k .zeros x)
   unfolding First
   alone ls n y t f e is = rw (append-nil ls) at (then ls [] n y t f (record { number = exactly [] (k .number y) e; beside = λ h. absurd (h e) }) is)

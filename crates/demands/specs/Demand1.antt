@@ -44,7 +44,7 @@ pub record RefusesBytes (lines : List Line) (before : List ℕ) (x : Written) (a
 pub record Demand1 : Type 0 where
   -- it expects nothing of its caller
   pub free : Free
-  -- a section: 7 to 13; under 12 a layer is not added, and the section is as it came
+  -- a section: 7 to 13 with 20; under 12 a layer is not added, and the section is as it came
   pub section-refusal : Every.section-refusal (λ s x. ByTable (sectionLines s) x)
   pub with-layer : Every.with-layer (λ s depth area x. Refuses (layerLines s (record { depth = depth; area = area })) (x .refusal) (x .section ≡ s))
   pub law-of : Every.law-of (λ s x. Refuses (sectionLines s) (x .refusal) (x .law ≡ noLaw))
@@ -60,8 +60,8 @@ pub record Demand1 : Type 0 where
   -- a lone record: 6
   pub section-of : Every.section-of (λ part x. Refuses (loneLines part) (x .refusal) (x .section ≡ noSection))
   -- a section's record: 12 where it counts more than 8 layers
-  pub filed : Every.filed (λ s x. Refuses (filedLines s) (x .refusal) ((x .len ≡ 0) × (x .bytes ≡ replicate 56 0)))
-  pub record-of : Every.record-of (λ s x. Refuses (filedLines s) (x .refusal) ((x .len ≡ 0) × (x .bytes ≡ replicate 56 0)))
+  pub filed : Every.filed (λ s x. Refuses (filedLines s) (x .refusal) ((x .len ≡ 0) × (x .bytes ≡ replicate 60 0)))
+  pub record-of : Every.record-of (λ s x. Refuses (filedLines s) (x .refusal) ((x .len ≡ 0) × (x .bytes ≡ replicate 60 0)))
   -- a book that is written: 6 to 13 of the first record that is refused, then 19; a layer added to a record: 6, 12, then 19
   pub write-book : Every.write-book (λ records before x after. RefusesBytes (writeLines records (length before)) before x after)
   pub add-layer : Every.add-layer (λ part depth area before x after. RefusesBytes (loneLines part ++ addLines (sectionIn part) (record { depth = depth; area = area }) (length before)) before x after)

@@ -53,6 +53,10 @@ LayerAdded s l x = (x .section ≡ withLayer s l) × (layersOf (x .section) ≡ 
 abbrev pub ZeroPast : Section → Type 0
 ZeroPast s = (j : ℕ) → s .count ≤ j → layerAt (s .layers) j ≡ noLayer
 
+-- without a flange bf is 0
+abbrev pub FlatIdle : Section → Type 0
+FlatIdle s = s .hf ≡ 0 → s .bf ≡ 0
+
 abbrev pub ClassIs : ℕ → ℕ → ClassAnswer → Type 0
 ClassIs fr1 fr3 x = (x .step ≡ stepOf fr1) × (x .letter ≡ letterOf (stepOf fr1) fr3)
 
@@ -79,7 +83,9 @@ Held s = mag (s .load) < 2 ^ 31
 -- the record with the layer, and the lent bytes' own behind it; it is read as the section with the layer
 abbrev pub LayerPut : List ℕ → Layer → List ℕ → Written → List ℕ → Type 0
 LayerPut part l before x after =
-    (x .len ≡ recordSize (sectionIn part .count + 1)) × (after ≡ over (filed (withLayer (sectionIn part) l)) before) × (Bytes part → ReadsAs after (x .len) (withLayer (sectionIn part) l))
+    (x .len ≡ recordSize (sectionIn part .count + 1) (sectionIn part .hf))
+    × (after ≡ over (filed (withLayer (sectionIn part) l)) before)
+    × (Bytes part → ReadsAs after (x .len) (withLayer (sectionIn part) l))
 
 -- a sum lies from one bound to the other
 abbrev pub Between : ℤ → Range → Type 0
@@ -116,15 +122,16 @@ pub record Demand2 : Type 0 where
   pub square-root : (d bound : ℕ) → 0 < d → Largest (squared d) bound (largest (squared d) bound)
   pub cube-root : (bd bound : ℕ) → 0 < bd → Largest (cubed bd) bound (largest (cubed bd) bound)
   pub axial-share : (s : Section) → Accepted s → RoundsDown (pos 15 *ℤ loadOf s) (100 * concreteArea s) (axialShare s)
-  -- numbers in bytes, 0 past the end, and the section of a record, in which places past the layer count are zero
+  -- numbers in bytes, 0 past the end, and the section of a record, in which places past the layer count are zero, and so is bf where hf is
   pub byte : Every.byte (λ bytes at x. x ≡ getD bytes at 0)
   pub le32 : Every.le32 (λ bytes at x. x ≡ le32At bytes at)
   pub layers-at : Every.layers-at (λ bytes at x. x ≡ layersAt bytes at)
   pub size-at : Every.size-at (λ bytes at x. x ≡ sizeAt bytes at)
-  pub section-of : Every.section-of (λ part x. x .refusal ≡ 0 → (x .section ≡ sectionIn part) × ZeroPast (x .section))
-  -- and back: the record is read as the section, with zeros past the layer count; as it is written, with spacing 0 where there are no stirrups
-  pub filed : Every.filed (λ s x. x .refusal ≡ 0 → (x .len ≡ recordSize (s .count)) × (Held s → ReadsAs (x .bytes) (x .len) (asRead s)))
-  pub record-of : Every.record-of (λ s x. x .refusal ≡ 0 → (x .len ≡ recordSize (s .count)) × (Held s → ReadsAs (x .bytes) (x .len) (asRead (asWritten s))))
+  pub section-of : Every.section-of (λ part x. x .refusal ≡ 0 → (x .section ≡ sectionIn part) × ZeroPast (x .section) × FlatIdle (x .section))
+  -- and back: the record is read as the section, with zeros past the layer count and bf 0 where hf is 0; as it is written, with spacing 0 where there are
+  -- no stirrups
+  pub filed : Every.filed (λ s x. x .refusal ≡ 0 → (x .len ≡ recordSize (s .count) (s .hf)) × (Held s → ReadsAs (x .bytes) (x .len) (asRead s)))
+  pub record-of : Every.record-of (λ s x. x .refusal ≡ 0 → (x .len ≡ recordSize (s .count) (s .hf)) × (Held s → ReadsAs (x .bytes) (x .len) (asRead (asWritten s))))
   -- a book and the part of a record
   pub book : Every.book (λ bytes x. x .refusal ≡ 0 → x .count ≡ countOf bytes)
   pub record-place : Every.record-place (λ bytes i x. x .refusal ≡ 0 → PlaceIs bytes i x)

@@ -11,3 +11,4 @@ pub mod Widths
 pub mod Request1
 pub mod Request2
 pub mod Request3
+pub mod Request4

@@ -7,7 +7,7 @@ use lib.IntN.{ℤ}
 use lib.ListN.{length}
 use Rattle.section.specs.declared.Layer.{Layer}
 use Rattle.section.specs.declared.Section.{Section}
-use Rattle.section.specs.Accepted.{Between, ConcreteIn, SizesIn, SteelIn, FibresIn, LoadIn, BarsIn, TakesLayer, StirrupsIn}
+use Rattle.section.specs.Accepted.{Between, ConcreteIn, SizesIn, FlangeIn, SteelIn, FibresIn, LoadIn, BarsIn, TakesLayer, StirrupsIn}
 use Rattle.drawn.specs.Drawn.{Drawable}
 use Rattle.section.specs.Has.{lastDepth}
 use Rattle.depths.specs.Depths.{listed, SomeDepth}
@@ -54,6 +54,7 @@ abbrev pub sectionLines : Section → List Line
 sectionLines s =
     (7 unless ConcreteIn s)
     ∷ (8 unless SizesIn s)
+    ∷ (20 unless FlangeIn s)
     ∷ (9 unless SteelIn s)
     ∷ (10 unless FibresIn s)
     ∷ (11 unless LoadIn s)
@@ -76,7 +77,7 @@ depthsLines s room = sectionLines s ++ (14 unless SomeDepth s) ∷ (15 unless 3 
 abbrev pub shearLines : Section → List Line
 shearLines s = sectionLines s ++ (16 unless 0 < s .count) ∷ []
 
--- ---- of a string of records, each in turn: 6, then 7 to 13
+-- ---- of a string of records, each in turn: 6, then 7 to 13 with 20
 abbrev pub recordLines : List ℕ → ℕ → List Line
 recordLines r i = loneLines (partFrom r (placeAt r i)) ++ sectionLines (sectionAt r i)
 
@@ -92,7 +93,7 @@ abbrev pub writeLines : List ℕ → ℕ → List Line
 writeLines r room = recordsLines r (countIn r) ++ (19 unless BookFits r room) ∷ []
 
 abbrev pub addLines : Section → Layer → ℕ → List Line
-addLines s l room = layerLines s l ++ (19 unless recordSize (s .count + 1) ≤ room) ∷ []
+addLines s l room = layerLines s l ++ (19 unless recordSize (s .count + 1) (s .hf) ≤ room) ∷ []
 
 -- ---- of a class
 abbrev pub classLines : ℕ → ℕ → List Line

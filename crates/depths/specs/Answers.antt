@@ -11,7 +11,7 @@ use Rattle.section.specs.Refusal.{line, firstOf, sectionRefusal}
 use Rattle.depths.specs.declared.Listing.{Listing}
 use Rattle.depths.specs.Depths.{listed, written}
 
--- 7 to 13 first, then 14 where there is no depth to list
+-- 7 to 13 with 20 first, then 14 where there is no depth to list
 unfoldable pub depthsRefusal : Section → ℕ
 depthsRefusal s = firstOf (sectionRefusal s) (line (ltb 0 (length (listed s))) 14 0)
 

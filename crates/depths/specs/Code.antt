@@ -1,13 +1,25 @@
 -- What the private functions answer. No public contract cites it.
-use Prim.Native.Nat.{ℕ, _+_, _*_, _<_}
+use Prim.Native.Nat.{ℕ, _+_, _*_, _≤_, _<_}
 use mathlib.Core.Path.{_≡_}
 use mathlib.Core.Bool.{cond}
 use mathlib.Core.List.{List}
-use lib.IntN.{ℤ, pos}
+use lib.IntN.{ℤ, pos, natAbs}
 use lib.ListN.{getD}
-use lib.Signed.{ltZ}
+use lib.Signed.{ltZ, _≤ℤ_}
 use Rattle.section.specs.declared.Section.{Section}
+use Rattle.strips.specs.declared.Range.{Range}
 use Rattle.forces.specs.Forces.{imbalance}
+
+-- a force lies from one bound to the other, which are of at most so much
+pub record Lies (force : ℤ) (most : ℕ) (r : Range) : Type 0 where
+  pub above : (r .low) ≤ℤ force
+  pub below : force ≤ℤ (r .high)
+  pub low-most : natAbs (r .low) ≤ most
+  pub high-most : natAbs (r .high) ≤ most
+
+-- 2,000 times the most that a bound of a run of strips is
+abbrev pub mostRun : ℕ
+mostRun = 2000 * 4294967296
 
 -- no layer's force is larger than the largest area at the largest fyd, and there are 8
 abbrev pub mostBars : ℕ

@@ -3,20 +3,21 @@
 // them, and the rule itself where it does.
 ghost use mathlib.Core.Path.{_≡_};
 ghost use Prim.Native.Nat.{_+_, _*_, _-_, _≤_, _<_};
-ghost use lib.IntN.{natAbs};
+ghost use lib.IntN.{pos, natAbs, _*ℤ_};
 ghost use lib.ListN.{length, replicate};
-ghost use Rattle.arith.specs.Sums.{sumZ};
+ghost use Rattle.arith.specs.Sums.{sumZ, after};
 ghost use Rattle.section.specs.Accepted.{Accepted};
 ghost use Rattle.section.specs.Has.{lastDepth};
 ghost use Rattle.law.specs.Law.{lawOf};
-ghost use Rattle.strips.specs.Strips.{scaleOf};
-ghost use Rattle.forces.specs.Forces.{strainScale, barForce, imbalance, moment};
+ghost use Rattle.strips.specs.Strips.{scaleOf, stripAt};
+ghost use Rattle.forces.specs.Forces.{strainScale, stripForce, barForce, imbalance, moment};
 ghost use Rattle.depths.specs.Depths.{kindAt, listed, written};
-ghost use Rattle.depths.specs.Code.{mostBars, signOf, Kept};
+ghost use Rattle.depths.specs.Code.{mostRun, mostBars, Lies, signOf, Kept};
 ghost use Rattle.depths.specs.Answers.{unlisted, listAnswer, rowAfter};
 use law::Law;
 use section::Section;
 use strips::Axis;
+use strips::Range;
 
 #[repr(C)]
 pub struct Listing {
@@ -33,6 +34,34 @@ impl Listing {
             refusal: number,
             count: 0,
         }
+    }
+}
+
+// Where the force of the strips from..to lies, which have one width, in mN.
+fn run_force(width: u16, law: Law, axis: Axis, from: u16, to: u16) -> Range
+    requires { ⌜ (width ≤ 2000) × (from ≤ to) ⌝ }
+    ensures { λ r. ⌜ Lies (pos width *ℤ sumZ (to - from) (after from (stripAt law axis))) mostRun r ⌝ }
+{
+    let run = strips::bounds(law, axis, from, to);
+    Range {
+        low: width as i64 * run.low,
+        high: width as i64 * run.high,
+    }
+}
+
+// Where the force of all strips lies: flange and web are a run each, and without a flange the web is all.
+fn strips_force(section: Section, law: Law, axis: Axis) -> Range
+    requires { ⌜ (Accepted section) × (law ≡ lawOf section) × (scaleOf axis ≡ strainScale (lawOf section) (axis .x)) ⌝ }
+    ensures { λ r. ⌜ Lies (sumZ (section .h) (stripForce (lawOf section) section (axis .x))) (mostRun + mostRun) r ⌝ }
+{
+    let web = run_force(section.b, law, axis, section.hf, section.h);
+    if section.hf == 0 {
+        return web;
+    }
+    let flange = run_force(section.bf, law, axis, 0, section.hf);
+    Range {
+        low: flange.low + web.low,
+        high: flange.high + web.high,
     }
 }
 
@@ -66,13 +95,12 @@ fn sign_at(section: Section, law: Law, x: u16) -> u8
     ensures { λ r. ⌜ r ≡ signOf (imbalance section x) ⌝ }
 {
     let axis = forces::axis_at(law, x);
-    let strips = strips::bounds(law, axis, 0, section.h);
+    let strips = strips_force(section, law, axis);
     let rest = bars_force(section, law, axis) - 1000 * (section.load as i64);
-    let b = section.b as i64;
-    if b * strips.high + rest < 0 {
+    if strips.high + rest < 0 {
         return 2;
     }
-    if 0 < b * strips.low + rest {
+    if 0 < strips.low + rest {
         return 1;
     }
     sign(forces::imbalance(section, x as u32).amount)
@@ -158,7 +186,7 @@ fn write_list(section: Section, kept: &[u8; 1000], row: &mut [i64])
     }
 }
 
-// The listed depths of a section, three words each: x, kind, moment; and their number. Or 7 to 13, 14 or 15, and the row as it was.
+// The listed depths of a section, three words each: x, kind, moment; and their number. Or 7 to 13 with 20, 14 or 15, and the row as it was.
 pub fn depths(section: Section, row: &mut [i64]) -> Listing
     ensures { λ r. ⌜ (r ≡ listAnswer section (length (now (row .entry)))) × (now (row .exit) ≡ rowAfter section (now (row .entry))) ⌝ }
 {

@@ -38,7 +38,7 @@ Drawable e = (negℤ (pos (edition .drawnTension)) ≤ℤ e) × (e ≤ℤ pos (e
 abbrev pub inDrawnRange : ℤ → Bool
 inDrawnRange e = leZ (negℤ (pos (edition .drawnTension))) e && leZ e (pos (edition .drawnCompression))
 
--- 7 to 13 first, then 18
+-- 7 to 13 with 20 first, then 18
 unfoldable pub drawnRefusal : Section → ℤ → ℕ
 drawnRefusal s e = firstOf (sectionRefusal s) (line (inDrawnRange e) 18 0)
 

@@ -118,7 +118,7 @@ impl Drawn {
     }
 }
 
-// The point of a section's law at a whole strain; or 7 to 13, then 18, and a point of plus zeros.
+// The point of a section's law at a whole strain; or 7 to 13 with 20, then 18, and a point of plus zeros.
 pub fn draw(section: Section, strain: i32) -> Drawn
     ensures { λ r. ⌜ r ≡ drawnAnswer section strain ⌝ }
 {

@@ -18,6 +18,6 @@ bar-small : (l : Law) (k : Scale) (x y : ℕ) → natAbs (barCounts l k x y) ≤
 unfolding rounded
 bar-small l k x y = rw (abs-signed _ _) (bar-most l _ _ _)
 
--- of a section: no more than 7 to 13 let its bars' strength be
+-- of a section: no more than 7 to 13 with 20 let its bars' strength be
 pub bar-weak : {s : Section} → Accepted s → {l : Law} → l ≡ lawOf s → (k : Scale) (x y : ℕ) → natAbs (barCounts l k x y) ≤ 521739
 bar-weak a {l} is k x y = omega (arith, bar-small l k x y, ap (λ (l : Law). l .fyd) is, law-in a .fyd .1)

@@ -10,11 +10,11 @@ use lib.Signed.{_≤ℤ_, _<ℤ_}
 use borrow.Author.Tests.{ltb-true}
 use Rattle.arith.specs.Sums.{sumN, sumZ}
 use Rattle.arith.proofs.Signed.{up, dn, same, up-scale, dn-scale, mul-neg, lever-most}
-use Rattle.arith.proofs.Sums.{sum-positive}
 use Rattle.arith.proofs.Rounding.{Within, within-exact, within-floor, within-neg, within-add, within-scale, within-wider, within-above, within-below, within-sum}
 use Rattle.section.specs.declared.Section.{Section}
 use Rattle.section.specs.Accepted.{Accepted}
 use Rattle.section.specs.Has.{widthAt, depthAt, areaAt, loadOf}
+use Rattle.section.proofs.Widths.{area-some}
 use Rattle.law.specs.declared.Law.{Law}
 use Rattle.law.specs.Edition.{edition}
 use Rattle.law.specs.Law.{lawOf}
@@ -92,7 +92,7 @@ abbrev area : Section → ℕ
 area s = sumN (s .h) (widthAt s) + sumN (s .count) (areaAt s)
 
 pub area-positive : {s : Section} → Accepted s → 0 < area s
-area-positive {s} a = omega (arith, sum-positive (s .h) (widthAt s) (omega (arith, a .sizes .1 .0)) (λ i h. omega (arith, a .sizes .0 .0)))
+area-positive a = omega (arith, area-some a)
 
 -- over any C, and of any numerators that are the stresses over it
 module _ {s : Section} (a : Accepted s) {x C : ℕ} (from : 1 ≤ x) (some : 0 < C) (strip bar : ℕ → ℤ)

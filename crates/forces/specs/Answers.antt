@@ -1,4 +1,4 @@
--- What imbalance and moment at a depth answer, refusals included: 7 to 13 first, then 18 (document 01, 'What is refused').
+-- What imbalance and moment at a depth answer, refusals included: 7 to 13 with 20 first, then 18 (document 01, 'What is refused').
 use Prim.Native.Nat.{ℕ}
 use lib.IntN.{ℤ}
 use Rattle.arith.specs.Answers.{unlessRefused}

@@ -68,7 +68,11 @@ pub fn bar(law: Law, axis: Axis, depth: u16) -> i64
 fn width_at(section: Section, i: u16) -> u16
     ensures { λ r. ⌜ r ≡ widthAt section i ⌝ }
 {
-    section.b
+    if i < section.hf {
+        section.bf
+    } else {
+        section.b
+    }
 }
 
 fn force(width: u16, stress: i64) -> i64
@@ -138,7 +142,7 @@ fn sums_at(section: Section, law: Law, x: u16) -> Sums
     }
 }
 
-// The moment at a depth where it is the turning that is asked for, else the imbalance; or 7 to 13, then 18, and zero.
+// The moment at a depth where it is the turning that is asked for, else the imbalance; or 7 to 13 with 20, then 18, and zero.
 fn amount_at(section: Section, x: u32, turning: bool) -> Amount
     ensures { λ r. ⌜ r ≡ amountAnswer section x (cond turning (moment section x) (imbalance section x)) ⌝ }
 {
@@ -156,7 +160,7 @@ fn amount_at(section: Section, x: u32, turning: bool) -> Amount
     }
 }
 
-// Compression forces minus tension forces minus the axial load, in mN, with the neutral axis at depth x; or 7 to 13, then 18, and zero.
+// Compression forces minus tension forces minus the axial load, in mN, with the neutral axis at depth x; or 7 to 13 with 20, then 18, and zero.
 pub fn imbalance(section: Section, x: u32) -> Amount
     ensures { λ r. ⌜ r ≡ imbalanceAnswer section x ⌝ }
 {

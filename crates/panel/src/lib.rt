@@ -29,7 +29,7 @@ pub extern "C" fn fw_record(bytes: &[u8], number: u32) -> RecordAnswer
     book::record_place(bytes, number)
 }
 
-// A book of the sections of a string of records, into lent bytes; or 6, 7 to 13 of the first that is refused, or 19, and the bytes as they were.
+// A book of the sections of a string of records, into lent bytes; or 6, 7 to 13 with 20 of the first that is refused, or 19, and the bytes as they were.
 #[no_mangle]
 pub extern "C" fn fw_write_book(records: &[u8], book: &mut [u8]) -> Written
     ensures { λ r. ⌜ (r ≡ writeAnswer (now (records .entry)) (length (now (book .entry)))) × (now (book .exit) ≡ bookAfter (now (records .entry)) (now (book .entry))) ⌝ }
@@ -53,7 +53,7 @@ pub extern "C" fn fw_class(fr1: u16, fr3: u16) -> ClassAnswer
     class::class(fr1, fr3)
 }
 
-// The point of a record's law at a whole strain; or 6, 7 to 13 or 18, and a point of plus zeros.
+// The point of a record's law at a whole strain; or 6, 7 to 13 with 20 or 18, and a point of plus zeros.
 #[no_mangle]
 pub extern "C" fn fw_draw(part: &[u8], strain: i32) -> Drawn
     ensures { λ r. ⌜ r ≡ drawnOf (now (part .entry)) strain ⌝ }
@@ -65,7 +65,7 @@ pub extern "C" fn fw_draw(part: &[u8], strain: i32) -> Drawn
     drawn::draw(answer.section, strain)
 }
 
-// The imbalance of a record's section with the neutral axis at depth x, in mN; or 6, 7 to 13 or 18, and zero.
+// The imbalance of a record's section with the neutral axis at depth x, in mN; or 6, 7 to 13 with 20 or 18, and zero.
 #[no_mangle]
 pub extern "C" fn fw_imbalance(part: &[u8], x: u32) -> Amount
     ensures { λ r. ⌜ r ≡ imbalanceOf (now (part .entry)) x ⌝ }
@@ -89,7 +89,7 @@ pub extern "C" fn fw_moment(part: &[u8], x: u32) -> Amount
     forces::moment(answer.section, x)
 }
 
-// Every depth where the forces of a record's section balance, into a lent row; or 6, 7 to 13, 14 or 15, and the row as it was.
+// Every depth where the forces of a record's section balance, into a lent row; or 6, 7 to 13 with 20, 14 or 15, and the row as it was.
 #[no_mangle]
 pub extern "C" fn fw_depths(part: &[u8], row: &mut [i64]) -> Listing
     ensures { λ r. ⌜ (r ≡ listOf (now (part .entry)) (length (now (row .entry)))) × (now (row .exit) ≡ rowOf (now (part .entry)) (now (row .entry))) ⌝ }
@@ -101,7 +101,7 @@ pub extern "C" fn fw_depths(part: &[u8], row: &mut [i64]) -> Listing
     depths::depths(answer.section, row)
 }
 
-// The shear that a record's section resists, in mN; or 6, 7 to 13 or 16, and zero.
+// The shear that a record's section resists, in mN; or 6, 7 to 13 with 20 or 16, and zero.
 #[no_mangle]
 pub extern "C" fn fw_shear(part: &[u8]) -> Amount
     ensures { λ r. ⌜ r ≡ shearOf (now (part .entry)) ⌝ }

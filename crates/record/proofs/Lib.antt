@@ -1,4 +1,5 @@
 pub mod Past
+pub mod Length
 pub mod Alone
 pub mod Places
 pub mod Answers

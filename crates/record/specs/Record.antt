@@ -1,6 +1,6 @@
--- Document 01, 'The section book': one record, by itself, little-endian.
+-- Document 01, 'The section book': one record, by itself, little-endian. Its flange is of document 02 [4].
 use Prim.Native.Nat.{ℕ, _+_, _*_, _<_}
-use mathlib.Core.Bool.{Bool, cond, _&&_}
+use mathlib.Core.Bool.{Bool, cond, _&&_, _||_}
 use mathlib.Core.List.{List, [], _∷_}
 use lib.Dec.{ltb, leb, eqb}
 use lib.IntN.{ℤ, pos, _-ℤ_}
@@ -27,35 +27,55 @@ le32At r i = le16At r i + 65536 * le16At r (i + 2)
 unfoldable pub signed32 : ℕ → ℤ
 signed32 n = cond (ltb n 2147483648) (pos n) (pos n -ℤ pos 4294967296)
 
--- a record of m layers has 24 + 4m bytes
-abbrev pub recordSize : ℕ → ℕ
-recordSize m = 24 + 4 * m
+-- ---- how long it is: its head, four bytes for each of m layers, then four for its flange, which there is where hf is not 0
+abbrev pub layersEnd : ℕ → ℕ
+layersEnd m = 24 + 4 * m
 
--- the layer count m of a record that starts at a place, and its length
+unfoldable pub flangeSize : ℕ → ℕ
+flangeSize hf = cond (eqb hf 0) 0 4
+
+abbrev pub recordSize : (m hf : ℕ) → ℕ
+recordSize m hf = layersEnd m + flangeSize hf
+
+-- the layer count m of a record that starts at a place, its flange height hf, and its length
 abbrev pub layersAt : List ℕ → ℕ → ℕ
 layersAt r at = le16At r (at + 20)
 
-abbrev pub sizeAt : List ℕ → ℕ → ℕ
-sizeAt r at = recordSize (layersAt r at)
+abbrev pub flangeAt : List ℕ → ℕ → ℕ
+flangeAt r at = le16At r (at + 22)
 
--- a lone one: 24 + 4m bytes, m at most 8, the zero zero
+abbrev pub sizeAt : List ℕ → ℕ → ℕ
+sizeAt r at = recordSize (layersAt r at) (flangeAt r at)
+
+-- a lone one: of that length, m at most 8, and the zero behind bf zero where there is a flange
 unfoldable pub recordRight : List ℕ → Bool
-recordRight r = eqb (length r) (sizeAt r 0) && leb (layersAt r 0) 8 && eqb (le16At r 22) 0
+recordRight r = eqb (length r) (sizeAt r 0) && leb (layersAt r 0) 8 && (eqb (flangeAt r 0) 0 || eqb (le16At r (layersEnd (layersAt r 0) + 2)) 0)
 
 unfoldable pub recordRefusal : List ℕ → ℕ
 recordRefusal r = line (recordRight r) 6 0
 
--- depth and area at a place, counted from 0. Past the count they are past the end
+-- ---- its section
+-- a number of its layers: past the layer count there is none, whatever follows
+abbrev pub numberIn : List ℕ → ℕ → ℕ
+numberIn r i = cond (ltb i (layersEnd (layersAt r 0))) (le16At r i) 0
+
+-- depth and area at a place, counted from 0
 abbrev pub layerIn : List ℕ → ℕ → Layer
-layerIn r j = record { depth = le16At r (24 + 4 * j); area = le16At r (26 + 4 * j) }
+layerIn r j = record { depth = numberIn r (24 + 4 * j); area = numberIn r (26 + 4 * j) }
 
 abbrev pub layersIn : List ℕ → List Layer
 layersIn r = layerIn r 0 ∷ layerIn r 1 ∷ layerIn r 2 ∷ layerIn r 3 ∷ layerIn r 4 ∷ layerIn r 5 ∷ layerIn r 6 ∷ layerIn r 7 ∷ []
+
+-- bf, behind the layers; read as 0 where hf is 0
+abbrev pub flangeWidth : List ℕ → ℕ
+flangeWidth r = cond (eqb (flangeAt r 0) 0) 0 (le16At r (layersEnd (layersAt r 0)))
 
 unfoldable pub sectionIn : List ℕ → Section
 sectionIn r = record {
   b = le16At r 0;
   h = le16At r 2;
+  hf = flangeAt r 0;
+  bf = flangeWidth r;
   fck = le16At r 4;
   fyk = le16At r 6;
   feq2 = le16At r 8;
@@ -71,6 +91,8 @@ abbrev pub noSection : Section
 noSection = record {
   b = 0;
   h = 0;
+  hf = 0;
+  bf = 0;
   fck = 0;
   fyk = 0;
   feq2 = 0;

@@ -1,10 +1,11 @@
 // One record (document 01, 'The section book'): numbers out of bytes, its section, and a section's record.
 ghost use mathlib.Core.Path.{_≡_};
 ghost use Prim.Native.Nat.{_+_, _/_, _%_, _≤_, _<_, _^_};
-ghost use lib.ListN.{getD};
+ghost use mathlib.Core.List.{[], _∷_, _++_};
+ghost use lib.ListN.{getD, take, drop};
 ghost use Rattle.arith.specs.Joined.{joined};
-ghost use Rattle.record.specs.Record.{le16At, le32At, signed32, recordSize, layersAt, sizeAt, recordRight, layerIn, layersIn, sectionIn, noSection, sectionAnswer};
-ghost use Rattle.record.specs.Filed.{unsigned32, numbersOf, numberBytes, inPlaces, asWritten, filedAnswer};
+ghost use Rattle.record.specs.Record.{le16At, le32At, signed32, layersEnd, recordSize, layersAt, flangeAt, sizeAt, recordRight, layerIn, layersIn, flangeWidth, sectionIn, noSection, sectionAnswer};
+ghost use Rattle.record.specs.Filed.{unsigned32, placesOf, numberBytes, inPlaces, asWritten, filedAnswer};
 use section::Layer;
 use section::Section;
 
@@ -17,7 +18,7 @@ pub struct SectionAnswer {
 pub struct RecordBytes {
     pub refusal: u32,
     pub len: u32,
-    pub bytes: [u8; 56],
+    pub bytes: [u8; 60],
 }
 
 // 0 past the end, so that a number can be read at any place of any part.
@@ -69,47 +70,79 @@ fn unsigned(z: i32) -> u32
     }
 }
 
-// The layer count of a record that starts at a place.
-pub fn layers_at(bytes: &[u8], at: usize) -> u16
-    ensures { λ r. ⌜ r ≡ layersAt (now (bytes .entry)) at ⌝ }
+// A number of the head of a record that starts at a place.
+fn head_at(bytes: &[u8], at: usize, number: usize) -> u16
+    requires { ⌜ number < 24 ⌝ }
+    ensures { λ r. ⌜ r ≡ le16At (now (bytes .entry)) (at + number) ⌝ }
 {
     if at < bytes.len() {
-        return le16(bytes, at + 20);
+        return le16(bytes, at + number);
     }
     0
 }
 
-// The length of a record of so many layers.
-fn record_size(m: u16) -> usize
-    ensures { λ r. ⌜ (r ≡ recordSize m) × (r < 2 ^ 32) ⌝ }
+// The layer count of a record that starts at a place.
+pub fn layers_at(bytes: &[u8], at: usize) -> u16
+    ensures { λ r. ⌜ r ≡ layersAt (now (bytes .entry)) at ⌝ }
+{
+    head_at(bytes, at, 20)
+}
+
+// Its flange height.
+fn flange_at(bytes: &[u8], at: usize) -> u16
+    ensures { λ r. ⌜ r ≡ flangeAt (now (bytes .entry)) at ⌝ }
+{
+    head_at(bytes, at, 22)
+}
+
+// Where so many layers end and the flange begins.
+fn layers_end(m: u16) -> usize
+    ensures { λ r. ⌜ r ≡ layersEnd m ⌝ }
 {
     24 + 4 * (m as usize)
 }
 
-// The length of a record that starts at a place, by its own layer count.
+// The length of a record of so many layers and such a flange height.
+fn record_size(m: u16, hf: u16) -> usize
+    ensures { λ r. ⌜ (r ≡ recordSize m hf) × (r < 2 ^ 32) ⌝ }
+{
+    if hf == 0 {
+        return layers_end(m);
+    }
+    layers_end(m) + 4
+}
+
+// The length of a record that starts at a place, by its own layer count and flange height.
 pub fn size_at(bytes: &[u8], at: usize) -> usize
     ensures { λ r. ⌜ (r ≡ sizeAt (now (bytes .entry)) at) × (r < 2 ^ 32) ⌝ }
 {
-    record_size(layers_at(bytes, at))
+    record_size(layers_at(bytes, at), flange_at(bytes, at))
 }
 
 fn record_right(part: &[u8]) -> bool
     ensures { λ r. ⌜ r ≡ recordRight (now (part .entry)) ⌝ }
 {
-    (part.len() == size_at(part, 0)) & (layers_at(part, 0) <= 8) & (le16(part, 22) == 0)
+    let m = layers_at(part, 0);
+    let hf = flange_at(part, 0);
+    let zero = le16(part, layers_end(m) + 2);
+    (part.len() == record_size(m, hf)) & (m <= 8) & ((hf == 0) | (zero == 0))
 }
 
+// Past the layer count there is none, also where a flange follows.
 fn layer_in(part: &[u8], j: usize) -> Layer
     requires { ⌜ j < 8 ⌝ }
     ensures { λ r. ⌜ r ≡ layerIn (now (part .entry)) j ⌝ }
 {
-    Layer {
-        depth: le16(part, 24 + 4 * j),
-        area: le16(part, 26 + 4 * j),
+    if j < layers_at(part, 0) as usize {
+        return Layer {
+            depth: le16(part, 24 + 4 * j),
+            area: le16(part, 26 + 4 * j),
+        };
     }
+    Layer { depth: 0, area: 0 }
 }
 
-// All eight places: past the layer count a record that is right has ended, so there they are zero.
+// All eight places.
 fn layers_in(part: &[u8]) -> [Layer; 8]
     ensures { λ r. ⌜ r ≡ layersIn (now (part .entry)) ⌝ }
 {
@@ -125,12 +158,24 @@ fn layers_in(part: &[u8]) -> [Layer; 8]
     ]
 }
 
+// Without a flange there is no width to read.
+fn flange_width(part: &[u8]) -> u16
+    ensures { λ r. ⌜ r ≡ flangeWidth (now (part .entry)) ⌝ }
+{
+    if flange_at(part, 0) == 0 {
+        return 0;
+    }
+    le16(part, layers_end(layers_at(part, 0)))
+}
+
 fn section_in(part: &[u8]) -> Section
     ensures { λ r. ⌜ r ≡ sectionIn (now (part .entry)) ⌝ }
 {
     Section {
         b: le16(part, 0),
         h: le16(part, 2),
+        hf: flange_at(part, 0),
+        bf: flange_width(part),
         fck: le16(part, 4),
         fyk: le16(part, 6),
         feq2: le16(part, 8),
@@ -149,6 +194,8 @@ fn no_section() -> Section
     Section {
         b: 0,
         h: 0,
+        hf: 0,
+        bf: 0,
         fck: 0,
         fyk: 0,
         feq2: 0,
@@ -177,9 +224,9 @@ pub fn section_of(part: &[u8]) -> SectionAnswer
     }
 }
 
-// The 16-bit numbers of a record in their order, with all eight places of layers.
-fn numbers(s: Section) -> [u16; 28]
-    ensures { λ r. ⌜ r ≡ numbersOf s ⌝ }
+// The 16-bit numbers of a record in their order, with all eight places of layers, and room for a flange behind them.
+fn numbers(s: Section) -> [u16; 30]
+    ensures { λ r. ⌜ r ≡ placesOf s ++ (0 ∷ 0 ∷ []) ⌝ }
 {
     let load = unsigned(s.load);
     let l0 = s.layers[0];
@@ -202,7 +249,7 @@ fn numbers(s: Section) -> [u16; 28]
         s.asw,
         s.spacing,
         s.count,
-        0,
+        s.hf,
         l0.depth,
         l0.area,
         l1.depth,
@@ -219,7 +266,21 @@ fn numbers(s: Section) -> [u16; 28]
         l6.area,
         l7.depth,
         l7.area,
+        0,
+        0,
     ]
+}
+
+// The flange behind the layers there are: its width, and a zero.
+fn with_flange(numbers: [u16; 30], m: u16, bf: u16) -> [u16; 30]
+    requires { ⌜ m ≤ 8 ⌝ }
+    ensures { λ r. ⌜ r ≡ take (layersEnd m / 2) numbers ++ (bf ∷ 0 ∷ []) ++ drop (layersEnd m / 2 + 2) numbers ⌝ }
+{
+    let at = layers_end(m) / 2;
+    let mut all = numbers;
+    all[at] = bf;
+    all[at + 1] = 0;
+    all
 }
 
 fn low(number: u16) -> u8
@@ -235,11 +296,11 @@ fn high(number: u16) -> u8
 }
 
 // The first so many of these in bytes, little-endian, and zeros.
-fn in_bytes(numbers: [u16; 28], n: usize) -> [u8; 56]
-    requires { ⌜ n ≤ 28 ⌝ }
+fn in_bytes(numbers: [u16; 30], n: usize) -> [u8; 60]
+    requires { ⌜ n ≤ 30 ⌝ }
     ensures { λ r. ⌜ r ≡ inPlaces (joined (numberBytes numbers) n) ⌝ }
 {
-    let mut bytes: [u8; 56] = [0; 56];
+    let mut bytes: [u8; 60] = [0; 60];
     for k in 0..n {
         let number = numbers[k];
         let at = 2 * k;
@@ -258,13 +319,15 @@ pub fn filed(s: Section) -> RecordBytes
         return RecordBytes {
             refusal: 12,
             len: 0,
-            bytes: [0; 56],
+            bytes: [0; 60],
         };
     }
+    let len = record_size(m, s.hf);
+    let all = with_flange(numbers(s), m, s.bf);
     RecordBytes {
         refusal: 0,
-        len: record_size(m) as u32,
-        bytes: in_bytes(numbers(s), 12 + 2 * (m as usize)),
+        len: len as u32,
+        bytes: in_bytes(all, len / 2),
     }
 }
 

@@ -1,4 +1,4 @@
--- A section is accepted exactly where 7 to 13 pass; and what each of these lines decides. Assumes nothing.
+-- A section is accepted exactly where 7 to 13 with 20 pass; and what each of these lines decides. Assumes nothing.
 use Prim.Native.Nat.{ℕ, _*_, _-_, _%_, _<_}
 use mathlib.Core.Path.{_≡_, sym, _∙_}
 use mathlib.Core.Bool.{true, not, _&&_, _||_}
@@ -11,9 +11,9 @@ use Rattle.arith.proofs.Tests.{Decides, is-less, is-most, is-same, is-both, is-
 use Rattle.section.specs.declared.Layer.{Layer}
 use Rattle.section.specs.declared.Section.{Section}
 use Rattle.section.specs.Section.{layerAt, layersOf, inRange, layersRight}
-use Rattle.section.specs.Refusal.{line, within, inTable, midRight, sectionRefusal}
+use Rattle.section.specs.Refusal.{line, within, inTable, flangeRight, midRight, sectionRefusal}
 use Rattle.section.specs.Added.{taken, layerRefusal}
-use Rattle.section.specs.Accepted.{ConcreteIn, SizesIn, SteelIn, FibresIn, LoadIn, LayersIn, BarsIn, TakesLayer, StirrupsIn, Accepted}
+use Rattle.section.specs.Accepted.{ConcreteIn, SizesIn, FlangeIn, SteelIn, FibresIn, LoadIn, LayersIn, BarsIn, TakesLayer, StirrupsIn, Accepted}
 use Rattle.section.proofs.Layers.{few, rising}
 use Rattle.section.proofs.Rising.{layer-in, in-layer, each, above-next, untaken, rises, free}
 use Rattle.section.proofs.Lines.{passes, between, one-line}
@@ -25,6 +25,9 @@ module _ (s : Section) where
 
   pub sizes-are : Decides (within 50 2000 (s .b) && within 50 1000 (s .h)) (SizesIn s)
   sizes-are = is-both (between 50 2000 (s .b)) (between 50 1000 (s .h))
+
+  pub flange-is : Decides (flangeRight s) (FlangeIn s)
+  flange-is = is-unless-zero (s .hf) (is-both (is-less (s .hf) (s .h)) (between (s .b) 2000 (s .bf)))
 
   pub steel-is : Decides (within 400 600 (s .fyk)) (SteelIn s)
   steel-is = between 400 600 (s .fyk)
@@ -66,12 +69,13 @@ module _ (s : Section) where
   accepted e =
       let p7 = passes 6 _ concrete-is e in
       let p8 = passes 7 _ sizes-are (p7 .1) in
-      let p9 = passes 8 _ steel-is (p8 .1) in
+      let p20 = passes 19 _ flange-is (p8 .1) in
+      let p9 = passes 8 _ steel-is (p20 .1) in
       let p10 = passes 9 _ fibres-are (p9 .1) in
       let p11 = passes 10 _ load-is (p10 .1) in
       let p12 = passes 11 _ bars-are (p11 .1) in
       let p13 = passes 12 _ stirrups-are (p12 .1) in
-      record { concrete = p7 .0; sizes = p8 .0; steel = p9 .0; fibres = p10 .0; load = p11 .0; bars = p12 .0; stirrups = p13 .0 }
+      record { concrete = p7 .0; sizes = p8 .0; flange = p20 .0; steel = p9 .0; fibres = p10 .0; load = p11 .0; bars = p12 .0; stirrups = p13 .0 }
 
   pub accepts : Accepted s → sectionRefusal s ≡ 0
   unfolding sectionRefusal
@@ -79,6 +83,7 @@ module _ (s : Section) where
       rw (
         concrete-is .1 (a .concrete),
         sizes-are .1 (a .sizes),
+        flange-is .1 (a .flange),
         steel-is .1 (a .steel),
         fibres-are .1 (a .fibres),
         load-is .1 (a .load),

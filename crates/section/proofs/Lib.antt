@@ -6,3 +6,4 @@ pub mod Accepted
 pub mod Inserted
 pub mod Load
 pub mod Centroid
+pub mod Widths

@@ -17,6 +17,10 @@ ConcreteIn s = Between 20 50 (s .fck) × (s .fck % 5 ≡ 0)
 abbrev pub SizesIn : Section → Type 0
 SizesIn s = Between 50 2000 (s .b) × Between 50 1000 (s .h)
 
+-- 20, after 8: where there is a flange, hf below h and bf from b to 2,000
+abbrev pub FlangeIn : Section → Type 0
+FlangeIn s = 0 < s .hf → (s .hf < s .h) × Between (s .b) 2000 (s .bf)
+
 -- 9: fyk
 abbrev pub SteelIn : Section → Type 0
 SteelIn s = Between 400 600 (s .fyk)
@@ -57,6 +61,7 @@ StirrupsIn s = 0 < s .asw → 0 < s .spacing
 pub record Accepted (s : Section) : Type 0 where
   pub concrete : ConcreteIn s
   pub sizes : SizesIn s
+  pub flange : FlangeIn s
   pub steel : SteelIn s
   pub fibres : FibresIn s
   pub load : LoadIn s

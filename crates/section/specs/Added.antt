@@ -33,6 +33,8 @@ unfoldable pub withLayer : Section → Layer → Section
 withLayer s l = record {
   b = s .b;
   h = s .h;
+  hf = s .hf;
+  bf = s .bf;
   fck = s .fck;
   fyk = s .fyk;
   feq2 = s .feq2;

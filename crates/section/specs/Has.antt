@@ -1,14 +1,15 @@
 -- What a section has, of any section. Lengths in mm, areas in mm², the load in mN.
 use Prim.Native.Nat.{ℕ, _*_}
 use mathlib.Core.Bool.{cond}
+use lib.Dec.{ltb}
 use lib.IntN.{ℤ, pos, _*ℤ_}
 use Rattle.arith.specs.Sums.{sumN}
 use Rattle.section.specs.declared.Section.{Section}
 use Rattle.section.specs.Section.{layerAt, belowMid}
 
--- the width of strip i, of h strips of 1 mm
+-- the width of strip i, of h strips of 1 mm, counted from 0 at the compressed face: that of the flange where i is below hf ([4] of document 02)
 abbrev pub widthAt : Section → ℕ → ℕ
-widthAt s i = s .b
+widthAt s i = cond (ltb i (s .hf)) (s .bf) (s .b)
 
 abbrev pub depthAt : Section → ℕ → ℕ
 depthAt s j = layerAt (s .layers) j .depth
@@ -16,7 +17,7 @@ depthAt s j = layerAt (s .layers) j .depth
 abbrev pub areaAt : Section → ℕ → ℕ
 areaAt s j = layerAt (s .layers) j .area
 
--- b h, strip by strip
+-- the true area: b h without a flange
 abbrev pub concreteArea : Section → ℕ
 concreteArea s = sumN (s .h) (widthAt s)
 

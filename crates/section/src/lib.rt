@@ -1,4 +1,5 @@
-// A section of fibre concrete, what is refused of it, what it has, and a layer added to it (document 01, 'What a section is').
+// A section of fibre concrete, what is refused of it, what it has, and a layer added to it (document 01, 'What a section is'; document 02 [4]:
+// its flange).
 ghost use mathlib.Core.Path.{_≡_};
 ghost use mathlib.Core.Bool.{true, cond, _&&_};
 ghost use mathlib.Core.List.{_++_};
@@ -7,7 +8,7 @@ ghost use lib.Dec.{ltb, leb};
 ghost use lib.IntN.{natAbs};
 ghost use lib.ListN.{drop};
 ghost use Rattle.section.specs.Section.{layersOf, inRange, layersRight};
-ghost use Rattle.section.specs.Refusal.{within, midRight, sectionRefusal};
+ghost use Rattle.section.specs.Refusal.{within, flangeRight, midRight, sectionRefusal};
 ghost use Rattle.section.specs.Added.{taken, layerRefusal, inserted, addedAnswer};
 ghost use Rattle.section.specs.Has.{steelArea, steelMoment, lastDepth};
 ghost use Rattle.section.specs.Amount.{noAmount};
@@ -17,10 +18,13 @@ pub struct Layer {
     pub area: u16,
 }
 
-// b, h, depths and spacing in mm, areas in mm², fck and fyk in N/mm², feq2 and feq3 in kPa, the load in N.
+// b, h, depths and spacing in mm, areas in mm², fck and fyk in N/mm², feq2 and feq3 in kPa, the load in N. hf and bf are the height and the
+// width of the flange, in mm; hf 0 is none, and bf is then ignored.
 pub struct Section {
     pub b: u16,
     pub h: u16,
+    pub hf: u16,
+    pub bf: u16,
     pub fck: u16,
     pub fyk: u16,
     pub feq2: u16,
@@ -61,6 +65,13 @@ fn inside(low: u16, high: u16, n: u16) -> bool
     ensures { λ r. ⌜ r ≡ within low high n ⌝ }
 {
     (low <= n) & (n <= high)
+}
+
+// hf below h, and bf from b to 2000: not tested where there is no flange.
+fn flange_right(s: Section) -> bool
+    ensures { λ r. ⌜ r ≡ flangeRight s ⌝ }
+{
+    (s.hf == 0) | ((s.hf < s.h) & inside(s.b, 2000, s.bf))
 }
 
 fn load_right(load: i32) -> bool
@@ -210,7 +221,7 @@ impl Section {
         }
     }
 
-    // The refusal of a section, 7 to 13, or 0. It is built from the table's last line up, so that the first that holds stays.
+    // The refusal of a section, 7 to 13 with 20, or 0. It is built from the table's last line up, so that the first that holds stays.
     pub fn refusal(self) -> u32
         ensures { λ r. ⌜ r ≡ sectionRefusal self ⌝ }
     {
@@ -219,6 +230,7 @@ impl Section {
         let refusal = line(load_right(self.load), 11, refusal);
         let refusal = line((self.feq2 <= 20000) & (self.feq3 <= 20000), 10, refusal);
         let refusal = line(inside(400, 600, self.fyk), 9, refusal);
+        let refusal = line(flange_right(self), 20, refusal);
         let refusal = line(
             inside(50, 2000, self.b) & inside(50, 1000, self.h),
             8,

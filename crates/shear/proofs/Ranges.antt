@@ -1,12 +1,9 @@
 -- The ranges of what a section's shear is computed from, where it is accepted. Assumes nothing.
 use Prim.Native.Nat.{ℕ, _*_, _^_, _≤_, _<_}
-use mathlib.Core.Path.{_≡_}
 use native.Mathlib.Nat as NatL
 use native.Mathlib.Omega.{arith}
-use Rattle.arith.proofs.Sums.{sum-alike}
 use Rattle.section.specs.declared.Section.{Section}
 use Rattle.section.specs.Accepted.{Accepted}
-use Rattle.section.specs.Has.{concreteArea}
 
 -- a length, and b times it
 pub record AreaIn (b n : ℕ) : Type 0 where
@@ -19,13 +16,6 @@ pub times-width : {s : Section} → Accepted s → (n : ℕ) → 0 < n → n ≤
 times-width {s} a n h k =
     let w : 0 < s .b = omega (arith, a .sizes .0 .0) in
     record { most = k; area = NatL.mul-pos w h; area-most = NatL.mul-le-mul {n₂ = 2000} {m₂ = 1000} (a .sizes .0 .1) k }
-
--- b h
-pub area-in : {s : Section} → Accepted s → AreaIn (s .b) (s .h)
-area-in {s} a = times-width a (s .h) (omega (arith, a .sizes .1 .0)) (a .sizes .1 .1)
-
-pub concrete-area : (s : Section) → concreteArea s ≡ s .b * s .h
-concrete-area s = sum-alike (s .h) (s .b)
 
 -- what c³ b d is held to
 pub steel-product : (steel fck : ℕ) → steel ≤ 65535 * 8 → fck ≤ 50 → 100000000000 * steel * fck < 2 ^ 63

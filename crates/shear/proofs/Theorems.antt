@@ -11,9 +11,9 @@ use Rattle.arith.proofs.Floor.{floor-is}
 use Rattle.section.specs.declared.Section.{Section}
 use Rattle.section.specs.Accepted.{Accepted}
 use Rattle.section.specs.Has.{concreteArea, loadOf}
+use Rattle.section.proofs.Widths.{area-some}
 use Rattle.shear.specs.Shear.{squared, cubed, axialShare}
 use Rattle.roots.proofs.Powers.{raised-climbs}
-use Rattle.shear.proofs.Ranges.{concrete-area, area-in}
 
 -- the root of k, and both roots of c
 pub square-root : (d bound : ℕ) → 0 < d → Largest (squared d) bound (largest (squared d) bound)
@@ -22,7 +22,7 @@ square-root d bound h = largest-is (raised-climbs false d h) (omega arith)
 pub cube-root : (bd bound : ℕ) → 0 < bd → Largest (cubed bd) bound (largest (cubed bd) bound)
 cube-root bd bound h = largest-is (raised-climbs true bd h) (omega arith)
 
--- 15 N over 100 b h
+-- 15 N over 100 times the true area
 pub axial-floor : {s : Section} → Accepted s → RoundsDown (pos 15 *ℤ loadOf s) (100 * concreteArea s) (axialShare s)
 unfolding axialShare
-axial-floor {s} a = floor-is (pos 15 *ℤ loadOf s) (100 * concreteArea s) (omega (arith, concrete-area s, area-in a .area))
+axial-floor {s} a = floor-is (pos 15 *ℤ loadOf s) (100 * concreteArea s) (omega (arith, area-some a))

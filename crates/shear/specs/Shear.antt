@@ -1,5 +1,5 @@
--- Document 01, 'Shear' (3.2.1 of document 002; only with bars). Shear in mN, stress in kPa, length in mm, area in mm²; k and c in thousandths. Every
--- quotient is rounded down.
+-- Document 01, 'Shear' (3.2.1 of document 002; only with bars), with the flange of document 02 [4]. Shear in mN, stress in kPa, length in mm, area
+-- in mm²; k, c and kf in thousandths. Every quotient is rounded down.
 use Prim.Native.Nat.{ℕ, _+_, _*_, _-_, _/_, min, max}
 use mathlib.Core.Bool.{cond}
 use lib.Dec.{ltb, eqb}
@@ -38,16 +38,21 @@ cOf bd steel fck =
 abbrev pub atLeastZero : ℤ → ℕ
 atLeastZero z = cond (ltZ z (pos 0)) 0 (natAbs z)
 
--- 15 N / (100 b h) with N in mN, rounded towards minus infinity
+-- 15 N / (100 b h) with N in mN and the true area for b h, rounded towards minus infinity
 unfoldable pub axialShare : Section → ℤ
 axialShare s = floorDiv (pos 15 *ℤ loadOf s) (100 * concreteArea s)
 
 unfoldable pub concreteShare : (d : ℕ) → Section → ℕ
 concreteShare d s = atLeastZero (pos (12 * kOf d * cOf (s .b * d) (steelArea s) (s .fck) / 100000) +ℤ axialShare s)
 
--- ---- fibres (equations 16, 18 and 19): t = 12 feq3 / 100, then t x max(1000, 1600 - d) / 1000
-unfoldable pub fibreShare : (feq3 d : ℕ) → ℕ
-fibreShare feq3 d = 12 * feq3 / 100 * max 1000 (1600 - d) / 1000
+-- ---- fibres (equations 16 to 19)
+-- equation 17: kf is 1000 + 1000 q hf / (b d), q the least of bf - b, 3 hf and 3 b; at most 1500
+unfoldable pub kfOf : (d : ℕ) → Section → ℕ
+kfOf d s = min (1000 + 1000 * min (s .bf - s .b) (min (3 * s .hf) (3 * s .b)) * s .hf / (s .b * d)) 1500
+
+-- t = 12 feq3 / 100, then t x max(1000, 1600 - d) x kf / 1,000,000
+unfoldable pub fibreShare : (feq3 d kf : ℕ) → ℕ
+fibreShare feq3 d kf = 12 * feq3 / 100 * max 1000 (1600 - d) * kf / 1000000
 
 -- ---- stirrups (equation 20)
 unfoldable pub stirrups : (asw d fyd spacing : ℕ) → ℕ
@@ -62,13 +67,13 @@ unfoldable pub resistanceUnder : Law → Section → ℕ
 resistanceUnder l s =
     let d = l .d in
     min
-    ((concreteShare d s + fibreShare (s .feq3) d) * (s .b * d) + stirrups (s .asw) d (l .fyd) (s .spacing))
+    ((concreteShare d s + fibreShare (s .feq3) d (kfOf d s)) * (s .b * d) + stirrups (s .asw) d (l .fyd) (s .spacing))
     (struts (s .fck) (s .b * d))
 
 abbrev pub resistance : Section → ℕ
 resistance s = resistanceUnder (lawOf s) s
 
--- ---- the answer: 7 to 13, then 16 without bars
+-- ---- the answer: 7 to 13 with 20, then 16 without bars
 unfoldable pub shearRefusal : Section → ℕ
 shearRefusal s = firstOf (sectionRefusal s) (line (ltb 0 (s .count)) 16 0)
 

@@ -1,11 +1,12 @@
-// The shear that a section resists (document 01, 'Shear').
+// The shear that a section resists (document 01, 'Shear'; document 02 [4]: its flange).
 ghost use mathlib.Core.Path.{_≡_};
 ghost use Prim.Native.Nat.{_+_, _*_, _^_, _≤_, _<_, min, max};
 ghost use lib.IntN.{natAbs};
 ghost use Rattle.arith.specs.Floor.{floorDiv};
 ghost use Rattle.section.specs.Accepted.{Accepted};
+ghost use Rattle.section.specs.Has.{concreteArea};
 ghost use Rattle.law.specs.Law.{lawOf};
-ghost use Rattle.shear.specs.Shear.{kOf, cOf, atLeastZero, axialShare, concreteShare, fibreShare, stirrups, struts, resistanceUnder, shearAnswer};
+ghost use Rattle.shear.specs.Shear.{kOf, cOf, atLeastZero, axialShare, concreteShare, kfOf, fibreShare, stirrups, struts, resistanceUnder, shearAnswer};
 ghost use Rattle.shear.specs.Code.{mostAxial, mostConcrete, mostShear};
 use law::Law;
 use section::Amount;
@@ -52,15 +53,20 @@ fn floor_div(n: i64, d: u64) -> i64
     if n < 0 { -1 - (-1 - n) / by } else { n / by }
 }
 
-// 15 N / (100 b h), with N in mN.
+// Flange and web: b h without a flange.
+fn area(section: Section) -> u64
+    requires { ⌜ Accepted section ⌝ }
+    ensures { λ r. ⌜ (r ≡ concreteArea section) × (0 < r) × (r ≤ 2000 * 1000) ⌝ }
+{
+    section.bf as u64 * section.hf as u64 + section.b as u64 * (section.h - section.hf) as u64
+}
+
+// 15 N / (100 b h), with N in mN and the true area for b h.
 fn axial_share(section: Section) -> i64
     requires { ⌜ Accepted section ⌝ }
     ensures { λ r. ⌜ (r ≡ axialShare section) × (natAbs r ≤ mostAxial) ⌝ }
 {
-    floor_div(
-        15 * (1000 * (section.load as i64)),
-        100 * (section.b as u64 * section.h as u64),
-    )
+    floor_div(15 * (1000 * (section.load as i64)), 100 * area(section))
 }
 
 fn at_least_zero(z: i64) -> u64
@@ -81,12 +87,27 @@ fn concrete_share(section: Section, d: u64) -> u64
     at_least_zero(share as i64 + axial_share(section))
 }
 
-// In kPa.
-fn fibre_share(feq3: u64, d: u64) -> u64
-    requires { ⌜ (feq3 ≤ 20000) × (d ≤ 1000) ⌝ }
-    ensures { λ r. ⌜ (r ≡ fibreShare feq3 d) × (r ≤ 4000) ⌝ }
+// kf in thousandths, 1000 without a flange.
+fn kf_of(section: Section, d: u64) -> u64
+    requires { ⌜ (Accepted section) × (0 < d) × (d ≤ 1000) ⌝ }
+    ensures { λ r. ⌜ (r ≡ kfOf d section) × (r ≤ 1500) ⌝ }
 {
-    12 * feq3 / 100 * most(1000, 1600 - d) / 1000
+    let b = section.b as u64;
+    let hf = section.hf as u64;
+    if hf == 0 {
+        return 1000;
+    }
+    let q = least(section.bf as u64 - b, least(3 * hf, 3 * b));
+    let kf = 1000 + 1000 * q * hf / (b * d);
+    least(kf, 1500)
+}
+
+// In kPa.
+fn fibre_share(feq3: u64, d: u64, kf: u64) -> u64
+    requires { ⌜ (feq3 ≤ 20000) × (d ≤ 1000) × (kf ≤ 1500) ⌝ }
+    ensures { λ r. ⌜ (r ≡ fibreShare feq3 d kf) × (r ≤ 6000) ⌝ }
+{
+    12 * feq3 / 100 * most(1000, 1600 - d) * kf / 1000000
 }
 
 // In mN; the spacing is ignored where there are none.
@@ -115,13 +136,14 @@ fn resistance(section: Section, law: Law) -> u64
 {
     let d = law.d as u64;
     let bd = section.b as u64 * d;
-    let shares = concrete_share(section, d) + fibre_share(section.feq3 as u64, d);
+    let fibres = fibre_share(section.feq3 as u64, d, kf_of(section, d));
+    let shares = concrete_share(section, d) + fibres;
     let sum = shares * bd + stirrups(section.asw, d, law.fyd as u64, section.spacing);
     let struts = struts(section.fck as u64, bd);
     least(sum, struts)
 }
 
-// The shear that a section resists, in mN; or 7 to 13, then 16 without bars, and zero.
+// The shear that a section resists, in mN; or 7 to 13 with 20, then 16 without bars, and zero.
 pub fn shear(section: Section) -> Amount
     ensures { λ r. ⌜ r ≡ shearAnswer section ⌝ }
 {

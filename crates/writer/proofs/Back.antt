@@ -85,7 +85,9 @@ module _ (s : List ℕ) (good : GoodBook s) (bytes : Bytes s) where
     next = rw (← (add-one i)) (sym (good .records .each i h .meets))
 
     size-there : sizeAt front at ≡ sizeAt s at
-    size-there = rw (getD-take index s (at + 20) 0 (omega (arith, ends)), getD-take index s (at + 20 + 1) 0 (omega (arith, ends)))
+    size-there =
+        let head : (j : ℕ) → j < at + 24 → getD front j 0 ≡ getD s j 0 = λ j k. getD-take index s j 0 (omega (arith, ends)) in
+        rw (head (at + 20) (omega arith), head (at + 20 + 1) (omega arith), head (at + 22) (omega arith), head (at + 22 + 1) (omega arith))
 
   place-same : (i : ℕ) → i ≤ n → placeAt front i ≡ startOf s i
   unfolding placeAt

@@ -42,20 +42,20 @@ module _ (s : Section) (l : Layer) {x : Added} (is : x ≡ addedAnswer s l) (bef
     pub layer-inside : y .len ≤ length (y .bytes)
     layer-inside = front .inside
 
-    len : y .len ≡ recordSize (s .count + 1)
+    len : y .len ≡ recordSize (s .count + 1) (s .hf)
     unfolding withLayer
     len = front .len
 
     pub layer-homeless : length before < y .len → (unwritten 19 ≡ layerAnswer s l (length before)) × (before ≡ layerAfter s l before)
     unfolding addRefusal
-    layer-homeless h = rw (none, lt-leb (recordSize (s .count + 1)) (length before) (omega (arith, len))) (refl, refl)
+    layer-homeless h = rw (none, lt-leb (recordSize (s .count + 1) (s .hf)) (length before) (omega (arith, len))) (refl, refl)
 
     pub layer-put : y .len ≤ length before → (written (y .len) ≡ layerAnswer s l (length before)) × (putAt 0 (take (y .len) (y .bytes)) before ≡ layerAfter s l before)
     unfolding addRefusal
-    layer-put h = rw (none, le-leb (recordSize (s .count + 1)) (length before) (omega (arith, len)), front .bytes) (ap written len, refl)
+    layer-put h = rw (none, le-leb (recordSize (s .count + 1) (s .hf)) (length before) (omega (arith, len)), front .bytes) (ap written len, refl)
 
 -- ---- what is then read
-pub layer-length : (s : Section) (l : Layer) → length (layerRecord s l) ≡ recordSize (s .count + 1)
+pub layer-length : (s : Section) (l : Layer) → length (layerRecord s l) ≡ recordSize (s .count + 1) (s .hf)
 unfolding withLayer
 layer-length s l = filed-length (withLayer s l)
 
@@ -65,4 +65,5 @@ pub layer-reads :
 unfolding withLayer
 layer-reads r l bytes ok fits =
     let s = sectionIn r in
-    (record-stands (layerRecord s l) .1 (filed-stands (withLayer s l) (omega (arith, takes s l fits .room))), section-filed (withLayer s l) (load-held r bytes) ∙ added-cleared r l ok fits)
+    let few : withLayer s l .count ≤ 8 = omega (arith, takes s l fits .room) in
+    (record-stands (layerRecord s l) .1 (filed-stands (withLayer s l) few), section-filed (withLayer s l) few (load-held r bytes) ∙ added-cleared r l fits)

@@ -14,11 +14,11 @@ use Rattle.arith.proofs.Tests.{less-or-not}
 use Rattle.arith.proofs.Joined.{joined-next, joined-length, joined-at, joined-part, joined-get, joined-ends}
 use Rattle.section.specs.declared.Section.{Section}
 use Rattle.section.proofs.Accepted.{accepted-exactly}
-use Rattle.record.specs.Record.{le32At, recordSize, layersAt, sizeAt, recordRefusal, sectionIn}
+use Rattle.record.specs.Record.{le16At, le32At, recordSize, layersAt, sizeAt, recordRefusal, sectionIn}
 use Rattle.record.specs.Filed.{bytes32, asWritten}
 use Rattle.record.proofs.Placed.{le32-there}
 use Rattle.record.proofs.Alone.{record-stands}
-use Rattle.record.proofs.Inverse.{load-small, filed-length, filed-layers, filed-stands, section-filed, written-cleared}
+use Rattle.record.proofs.Inverse.{load-small, filed-length, filed-layers, filed-flange, filed-stands, section-filed, written-cleared}
 use Rattle.book.specs.Book.{indexOf, countOf, statedLength, byteFromEnd, startOf, endOf, askedRefusal}
 use Rattle.book.specs.Book as Book
 use Rattle.book.specs.Good.{LettersStand, StandsIn, GoodBook}
@@ -86,24 +86,29 @@ module _ (s : ℕ → Section) (n : ℕ) where
   start-is i h = rw (count-is, index-is) (⊎-elim (λ q. rw (lt-ltb i n q) (placed i q)) (λ q. let e : n ≡ i = omega arith in rw (le-ltb i n q, e)) (less-or-not i n))
 
   -- ---- a record
-  module _ (i : ℕ) (h : i < n) where
+  module _ (i : ℕ) (h : i < n) (few : asWritten (s i) .count ≤ 8) where
     in-book : (j : ℕ) → j < length (writtenRecord s i) → getD (bookOf s n) (P i + j) 0 ≡ getD (writtenRecord s i) j 0
     unfolding bookOf
     in-book j k = rw (append-assoc (recordsOf s n) places (lastBytes (P n) n)) (joined-get (writtenRecord s) n i h _ j 0 k)
 
-    layers-are : layersAt (bookOf s n) (startOf (bookOf s n) i) ≡ asWritten (s i) .count
-    layers-are =
+    head-is : (j : ℕ) → j + 1 < 24 → le16At (bookOf s n) (startOf (bookOf s n) i + j) ≡ le16At (writtenRecord s i) j
+    head-is j k =
         let l = filed-length (asWritten (s i)) in
-        rw (start-is i (omega arith), add-assoc (P i) 20 1, in-book 20 (omega arith), in-book 21 (omega arith)) (filed-layers (asWritten (s i)))
+        rw (start-is i (omega arith), add-assoc (P i) j 1, in-book j (omega arith), in-book (j + 1) (omega arith))
+
+    layers-are : layersAt (bookOf s n) (startOf (bookOf s n) i) ≡ asWritten (s i) .count
+    layers-are = head-is 20 (omega arith) ∙ filed-layers (asWritten (s i)) few
 
     size-is : sizeAt (bookOf s n) (startOf (bookOf s n) i) ≡ length (writtenRecord s i)
-    size-is = ap recordSize layers-are ∙ sym (filed-length (asWritten (s i)))
+    size-is =
+        let flange = head-is 22 (omega arith) ∙ filed-flange (asWritten (s i)) few in
+        (λ j. recordSize (layers-are j) (flange j)) ∙ sym (filed-length (asWritten (s i)))
 
     end-is : endOf (bookOf s n) i ≡ P (i + 1)
     end-is = rw (size-is, start-is i (omega arith), joined-next (writtenRecord s) i) (sym (length-append (recordsOf s i) (writtenRecord s i)))
 
-    stands : asWritten (s i) .count ≤ 8 → StandsIn (bookOf s n) i
-    stands few = record {
+    stands : StandsIn (bookOf s n) i
+    stands = record {
       few = rw layers-are few;
       inside = rw (end-is, index-is, joined-next (writtenRecord s) i, length-append (recordsOf s i) (writtenRecord s i)) (joined-ends (writtenRecord s) n i h);
       meets = rw end-is (sym (start-is (i + 1) (omega arith)));
@@ -116,14 +121,14 @@ module _ (s : ℕ → Section) (n : ℕ) where
       sized = ((omega (arith, of-length s n), room), stated-is);
       letters = letters;
       index = rw (index-is, count-is) (sym (of-length s n));
-      records = record { first = start-is 0 (omega arith); each = λ i h. stands i (rw count-is at h) (few i (rw count-is at h)) };
+      records = record { first = start-is 0 (omega arith); each = λ i h. let k = rw count-is at h in stands i k (few i k) };
     }
 
     pub part-filed : (i : ℕ) → i < n → Book.recordOf (bookOf s n) i ≡ writtenRecord s i
     unfolding askedRefusal bookOf
     part-filed i h =
         let asked : askedRefusal (bookOf s n) i ≡ 0 = rw (is-good (bookOf s n) book-good, count-is, lt-ltb i n h) in
-        part-is (bookOf s n) i asked ∙ rw (size-is i h, start-is i (omega arith), append-assoc (recordsOf s n) places (lastBytes (P n) n)) (joined-part (writtenRecord s) n i h _)
+        part-is (bookOf s n) i asked ∙ rw (size-is i h (few i h), start-is i (omega arith), append-assoc (recordsOf s n) places (lastBytes (P n) n)) (joined-part (writtenRecord s) n i h _)
 
     pub count-there : countOf (bookOf s n) ≡ n
     count-there = count-is
@@ -136,4 +141,5 @@ module _ {r : List ℕ} {n : ℕ} (t : Tallied r n) (i : ℕ) (h : i < n) where
       let p = passes-there t i h in
       let s = sectionAt r i in
       let load = load-small (s .load) (accepted-exactly s .0 (p .1) .load) in
-      (record-stands (writtenRecord (sectionAt r) i) .1 (filed-stands (asWritten s) (few-there t i h)), section-filed (asWritten s) load ∙ written-cleared (partFrom r (placeAt r i)) (p .0))
+      let few = few-there t i h in
+      (record-stands (writtenRecord (sectionAt r) i) .1 (filed-stands (asWritten s) few), section-filed (asWritten s) few load ∙ written-cleared (partFrom r (placeAt r i)))

@@ -6,7 +6,7 @@ use mathlib.Core.Logic.{⊎-elim}
 use native.Mathlib.Nat.{add-assoc, add-zero, add-suc, eq-or-lt-of-le}
 use native.Mathlib.Numerals.{add-one}
 use native.Mathlib.Omega.{arith}
-use lib.ListN.{length, take, drop, length-take, length-drop}
+use lib.ListN.{length, getD, take, drop, length-take, length-drop}
 use lib.Seq.{getD-take, getD-drop}
 use borrow.Author.Tests.{lt-ltb, le-ltb, ne-eqb}
 use Rattle.arith.specs.Sums.{sumN}
@@ -17,10 +17,13 @@ use Rattle.writer.specs.Records.{partFrom, placeAt, refusalAt, begins, c
 
 -- ---- the record that begins at a place
 module _ (r : List ℕ) (at : ℕ) where
-  -- its layer count, which lies in its head, is the string's there
+  -- its layer count and its flange height, which lie in its head, are the string's there
+  head-there : (j : ℕ) → j < 24 → getD (partFrom r at) j 0 ≡ getD r (at + j) 0
+  head-there j h = getD-take (sizeAt r at) (drop at r) j 0 (omega arith) ∙ getD-drop at r j 0
+
   pub part-size : sizeAt (partFrom r at) 0 ≡ sizeAt r at
   part-size =
-      rw (getD-take (sizeAt r at) (drop at r) 20 0 (omega arith), getD-take (sizeAt r at) (drop at r) 21 0 (omega arith), getD-drop at r 20 0, getD-drop at r 21 0, add-assoc at 20 1)
+      rw (head-there 20 (omega arith), head-there 21 (omega arith), head-there 22 (omega arith), head-there 23 (omega arith), add-assoc at 20 1, add-assoc at 22 1)
 
   -- where it is not refused, it ends in the string
   pub ends-inside : recordRefusal (partFrom r at) ≡ 0 → at ≤ length r → at + sizeAt r at ≤ length r

@@ -1,5 +1,5 @@
 -- Document 02 [1]: sections that come as a string of records, one after another, as a book has them before its index. What it stands for is a list of
--- sections: the first, the second and so on, and how many. Each is tested in turn, 6, then 7 to 13.
+-- sections: the first, the second and so on, and how many. Each is tested in turn, 6, then 7 to 13 with 20.
 use Prim.Native.Nat.{ℕ, zero, suc, _+_}
 use mathlib.Core.Bool.{cond}
 use mathlib.Core.List.{List}
@@ -11,7 +11,7 @@ use Rattle.section.specs.Refusal.{firstOf, sectionRefusal}
 use Rattle.record.specs.Record.{sizeAt, recordRefusal, sectionIn}
 use Rattle.book.specs.Book.{partOf}
 
--- the record that begins at a place: its bytes, as many as it says or, at the end, what is left; 6, then 7 to 13
+-- the record that begins at a place: its bytes, as many as it says or, at the end, what is left; 6, then 7 to 13 with 20
 abbrev pub partFrom : List ℕ → ℕ → List ℕ
 partFrom r at = partOf r at (sizeAt r at)
 

@@ -63,10 +63,10 @@ abbrev pub layerRecord : Section → Layer → List ℕ
 layerRecord s l = filed (withLayer s l)
 
 unfoldable pub addRefusal : Section → Layer → ℕ → ℕ
-addRefusal s l room = firstOf (layerRefusal s l) (line (leb (recordSize (s .count + 1)) room) 19 0)
+addRefusal s l room = firstOf (layerRefusal s l) (line (leb (recordSize (s .count + 1) (s .hf)) room) 19 0)
 
 abbrev pub layerAnswer : Section → Layer → ℕ → Written
-layerAnswer s l room = unlessRefused (addRefusal s l room) (written (recordSize (s .count + 1))) unwritten
+layerAnswer s l room = unlessRefused (addRefusal s l room) (written (recordSize (s .count + 1) (s .hf))) unwritten
 
 abbrev pub layerAfter : Section → Layer → List ℕ → List ℕ
 layerAfter s l before = unlessRefused (addRefusal s l (length before)) (over (layerRecord s l) before) (λ number. before)

@@ -50,7 +50,7 @@ fn part_at(records: &[u8], at: usize) -> &[u8]
     &records[at..len]
 }
 
-// 6, then 7 to 13, or 0.
+// 6, then 7 to 13 with 20, or 0.
 fn refusal_at(records: &[u8], at: usize) -> u32
     requires { ⌜ at < length (now records) ⌝ }
     ensures { λ r. ⌜ r ≡ refusalFrom (now (records .entry)) at ⌝ }
@@ -173,7 +173,7 @@ fn put_last(index: u32, count: u32, book: &mut [u8])
     put(&letters[0..4], book, at + 12);
 }
 
-// A book of the sections of a string of records; or 6, 7 to 13 of the first that is refused, or 19, and the lent bytes as they were.
+// A book of the sections of a string of records; or 6, 7 to 13 with 20 of the first that is refused, or 19, and the lent bytes as they were.
 pub fn write_book(records: &[u8], book: &mut [u8]) -> Written
     ensures { λ r. ⌜ (r ≡ writeAnswer (now (records .entry)) (length (now (book .entry)))) × (now (book .exit) ≡ bookAfter (now (records .entry)) (now (book .entry))) ⌝ }
 {

@@ -79,8 +79,8 @@ impl Books {
         Parts::of(records.collect())
     }
 
-    /// A book of so many bytes, a multiple of 4, that is good unless they are too many: of records without layers, with what is then
-    /// left over in the last one's layers.
+    /// A book of so many bytes, a multiple of 4, that is good unless they are too many: of records without layers and flange, with what
+    /// is then left over in the last one's.
     pub fn of_length(&mut self, length: usize) -> Parts {
         let (count, left) = ((length - 16) / 28, (length - 16) % 28);
         let last = |number| if number + 1 == count { left } else { 0 };

@@ -13,10 +13,12 @@ pub use balance::{
     amounts, area, exact, list_of, listed, rounded, rounded_by, write, Amount, Axis, List, Listed,
     Sums,
 };
-pub use book::{book, lines, record, Book, BookAnswer, Bound, Lines, RecordAnswer, LINES};
+pub use book::{
+    book, lines, own_length, record, Book, BookAnswer, Bound, Lines, RecordAnswer, LINES,
+};
 pub use class::{class, Class, LETTERS, STEPS};
 pub use drawn::{draw, stress_drawn, Drawn, Point};
 pub use law::{Law, TABLE};
-pub use section::{bars, centroid, Layer, Section};
-pub use shear::{c, shear, unlimited_c, unlimited_k, Shear};
+pub use section::{bars, centroid, record_length, Layer, Section, REFUSALS};
+pub use shear::{c, q, shear, unlimited_c, unlimited_k, unlimited_kf, Shear};
 pub use writer::{add_layer, book_of, records, write_book, Parts, Written};

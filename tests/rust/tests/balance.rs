@@ -1,9 +1,11 @@
 //! `fw_imbalance`, `fw_moment` and `fw_depths` held to document 01's balance.
+use fordwhistle_tests::flange::{self, Width};
 use fordwhistle_tests::held::Held;
 use fordwhistle_tests::random::Random;
 use fordwhistle_tests::rules::{self, Axis, Law, List, Section};
 use fordwhistle_tests::sections;
 use fordwhistle_tests::steel;
+use std::cmp::Ordering;
 use std::collections::BTreeSet;
 use std::sync::LazyLock;
 
@@ -138,10 +140,15 @@ fn the_depths_and_the_rows_reach_every_refusal() {
     each_row(|case, row| {
         rows.insert(rules::write(&case.list, &mut row.to_vec()).refusal);
     });
-    assert!(depths
-        .into_iter()
-        .eq([0].into_iter().chain(6..=13).chain([18])));
-    assert!(rows.into_iter().eq([0].into_iter().chain(6..=15)));
+    assert_eq!(depths, sections::refusals_and([0, 18]));
+    assert_eq!(rows, sections::refusals_and([0, 14, 15]));
+}
+
+#[test]
+fn every_error_in_what_is_refused_would_show_in_the_damaged_records() {
+    let records = || DAMAGED.iter().map(|case| case.record.clone());
+    sections::assert_order_shows(records());
+    flange::assert_refusals_show(records(), 10);
 }
 
 #[test]
@@ -158,6 +165,19 @@ fn the_lists_reach_both_kinds_alone_and_among_several_and_the_last_depth() {
         assert!(reached.contains(&(kind, false, true)));
     }
     assert!(reached.contains(&(1, true, false)));
+}
+
+#[test]
+fn the_lists_reach_both_kinds_in_the_flange_at_its_edge_and_below_it() {
+    let mut reached = BTreeSet::new();
+    for (section, case) in ACCEPTED.iter().filter(|(section, _)| section.hf != 0) {
+        for [x, kind, _] in case.list.as_ref().unwrap() {
+            reached.insert((*kind, x.cmp(&section.hf.into())));
+        }
+    }
+    let sides = [Ordering::Less, Ordering::Equal, Ordering::Greater];
+    let every = [1, 2].map(|kind| sides.map(|side| (kind, side)));
+    assert!(reached.iter().eq(every.as_flattened()));
 }
 
 #[test]
@@ -181,25 +201,40 @@ fn sections() -> impl Iterator<Item = &'static Section> {
 }
 
 #[test]
-fn the_sections_reach_every_kind_of_steel() {
+fn the_sections_reach_every_kind_of_steel_and_of_flange() {
     steel::assert_every_kind(sections());
+    flange::assert_every_kind(sections());
 }
 
-/// Whether another depth or kind is listed by another effective depth or limit. A wrong program may have its moments from elsewhere.
-fn listed_otherwise(section: &Section, d: u16, limit: u16) -> bool {
-    let list = |d, limit| {
+/// Whether another depth or kind is listed by another effective depth, limit or width of strips. A wrong program may have its moments from
+/// elsewhere.
+fn listed_otherwise(section: &Section, d: u16, limit: u16, width: Width) -> bool {
+    let list = |d, limit, width: Width| {
         let law = Law::by(section, d);
-        let imbalance = |x| rules::rounded_by(section, &law, &Axis::by(limit, x)).imbalance;
-        let imbalances: Vec<i64> = (1..=section.h).map(imbalance).collect();
+        let sums = |x| rules::rounded_by(section, &law, &Axis::by(limit, x), width);
+        let imbalances: Vec<i64> = (1..=section.h).map(|x| sums(x).imbalance).collect();
         rules::listed(&imbalances, |_| 0)
     };
-    list(d, limit) != list(section.effective_depth(), section.limit_depth())
+    let right = list(
+        section.effective_depth(),
+        section.limit_depth(),
+        Section::width,
+    );
+    list(d, limit, width) != right
 }
 
 #[test]
 fn every_wrong_effective_depth_would_show_in_many_lists() {
     steel::assert_errors_show(sections(), 30, |section, wrong| {
-        listed_otherwise(section, wrong, section.limit_depth())
+        listed_otherwise(section, wrong, section.limit_depth(), Section::width)
+    });
+}
+
+#[test]
+fn every_wrong_width_would_show_in_many_lists() {
+    flange::assert_widths_show(sections(), 30, |section, wrong| {
+        let [d, limit] = [section.effective_depth(), section.limit_depth()];
+        listed_otherwise(section, d, limit, wrong)
     });
 }
 
@@ -207,7 +242,7 @@ fn every_wrong_effective_depth_would_show_in_many_lists() {
 fn a_limit_at_the_centroid_would_show_in_many_lists() {
     let shows = |section: &&Section| {
         let d = section.effective_depth();
-        listed_otherwise(section, d, d)
+        listed_otherwise(section, d, d, Section::width)
     };
     let shown = sections().filter(shows).count();
     assert!(shown > 30, "{shown}");

@@ -1,6 +1,6 @@
 //! Wrong programs that the books tried of `fw_book` and `fw_record` would show.
 use fordwhistle_tests::books::tried;
-use fordwhistle_tests::rules::{Book, Bound, Lines, Section, LINES};
+use fordwhistle_tests::rules::{self, Book, Bound, Lines, Section, LINES};
 use std::mem::swap;
 
 /// What a wrong program makes of the right tests.
@@ -91,7 +91,7 @@ const INDICES: [Error; 7] = [
     }),
 ];
 
-const RECORDS: [Error; 14] = [
+const RECORDS: [Error; 16] = [
     ("the first record starts anywhere", |lines| {
         lines.first.1 = |_| true
     }),
@@ -111,6 +111,18 @@ const RECORDS: [Error; 14] = [
     ("there are at most 7 layers", |lines| {
         lines.layers.1 = |book| book.records().all(|record| record.m <= 7)
     }),
+    ("a rib's record is as long as another", |lines| {
+        lines.ends.1 = |book| (book.records()).all(|record| ends_at_next(Bound { hf: 0, ..record }))
+    }),
+    ("a flange height has 8 bits", |lines| {
+        lines.ends.1 = |book| {
+            let low = |record: Bound| Bound {
+                hf: record.hf % 256,
+                ..record
+            };
+            book.records().map(low).all(ends_at_next)
+        }
+    }),
     ("a record may stop short of the next", |lines| {
         lines.ends.1 = |book| book.records().all(|record| record.end() <= record.next)
     }),
@@ -126,14 +138,13 @@ const RECORDS: [Error; 14] = [
     ("the index is not looked into", |lines| {
         lines.first.1 = |_| true;
         lines.ends.1 = |book| {
-            let ends = (0..book.n).fold(0, |at, _| at + 24 + 4 * book.layer_count(at));
+            let ends = (0..book.n).fold(0, |at, _| at + rules::own_length(book.from(at)));
             ends == book.place
         }
     }),
-    (
-        "a record with its zero not zero refuses the book",
-        |lines| lines.ends.1 = |book| (LINES.ends.1)(book) && sections(book).all(|s| s != Err(6)),
-    ),
+    ("a rib with its zero not zero refuses the book", |lines| {
+        lines.ends.1 = |book| (LINES.ends.1)(book) && sections(book).all(|s| s != Err(6))
+    }),
     ("a section that is refused refuses the book", |lines| {
         lines.ends.1 = |book| (LINES.ends.1)(book) && sections(book).all(|s| s.is_ok())
     }),

@@ -1,6 +1,7 @@
 //! The book program: what it prints of the book on its standard input held to document 01's lines.
 use fordwhistle_tests::books::{self, tried, Books};
 use fordwhistle_tests::rules::{self, Layer, Parts, Section};
+use fordwhistle_tests::sections;
 use std::io::{self, ErrorKind, Read, Write};
 use std::os::unix::process::ExitStatusExt;
 use std::process::{Child, ChildStdin, Command, ExitStatus, Stdio};
@@ -112,11 +113,39 @@ fn a_high_section_has_the_first_of_its_depths_and_a_moment_below_zero() {
             depth: 501,
             area: 20,
         }],
+        hf: 0,
+        bf: 0,
     };
     let book = Parts::of(vec![wall.record()]).bytes();
     let lines = rules::lines(&book);
     assert!(lines.starts_with("0 0 3 100 2 -203982147720 0 "), "{lines}");
     assert_prints(&book, &lines);
+}
+
+/// Document 02's rib behind document 01's two, the same with a part put wrong, and a flange without its bytes.
+#[test]
+fn a_rib_has_its_line_among_rectangles() {
+    let prints = |rib: Vec<u8>, line: &str| {
+        let mut records = books::sample().records;
+        records.push(rib);
+        let lines = [books::SAMPLE_LINES, line, "\n"].concat();
+        assert_prints(&Parts::of(records).bytes(), &lines);
+    };
+    let rib = sections::rib();
+    prints(rib.record(), "2 0 1 63 2 342369284200 0 87696000");
+    prints(
+        Section {
+            bf: 199,
+            ..rib.clone()
+        }
+        .record(),
+        "2 20 0 0 0 0 20 0",
+    );
+    let [mut zero, mut without] = [rib.record(), Section { hf: 0, ..rib }.record()];
+    zero[30] = 1;
+    prints(zero, "2 6 0 0 0 0 6 0");
+    without[22] = 7;
+    assert_prints(&Parts::of(vec![without]).bytes(), "B 4\n");
 }
 
 #[test]

@@ -1,4 +1,5 @@
 //! `fw_draw` held to document 01's law.
+use fordwhistle_tests::flange;
 use fordwhistle_tests::held::Held;
 use fordwhistle_tests::random::Random;
 use fordwhistle_tests::rules::{self, Drawn, Law, Section, TABLE};
@@ -37,13 +38,15 @@ fn each_damaged(take: Take) {
     }
 }
 
-/// A record of two layers below mid-height at each limit of the load, with every value in each of its places of 16 bits.
+/// A record of two layers below mid-height, a rectangle's at one limit of the load and a rib's at the other, with every value in each of
+/// its places of 16 bits.
 fn each_swept(take: Take) {
     let mut random = Random::new(3);
-    for load in [-10_000_000, 10_000_000] {
+    for (load, rib) in [(-10_000_000, false), (10_000_000, true)] {
         let mut sections = repeat_with(|| sections::accepted(&mut random));
         let two = |section: &Section| section.layers.len() == 2 && section.steel().len() == 2;
-        let mut section = sections.find(two).unwrap();
+        let kind = |section: &Section| two(section) && (section.b < section.bf) == rib;
+        let mut section = sections.find(kind).unwrap();
         section.load = load;
         let record = section.record();
         for at in (0..record.len()).step_by(2) {
@@ -122,8 +125,16 @@ fn refusals(each: fn(Take)) -> BTreeSet<u32> {
 
 #[test]
 fn the_damaged_and_the_swept_records_reach_every_refusal() {
-    assert!(refusals(each_damaged).into_iter().eq((6..=13).chain([18])));
-    assert!(refusals(each_swept).into_iter().eq(6..=13));
+    assert_eq!(refusals(each_damaged), sections::refusals_and([18]));
+    assert_eq!(refusals(each_swept), sections::refusals_and([]));
+}
+
+#[test]
+fn every_error_in_what_is_refused_would_show_in_the_damaged_records() {
+    let mut records = vec![];
+    each_damaged(&mut |record, _| records.push(record.to_vec()));
+    sections::assert_order_shows(records.iter().cloned());
+    flange::assert_refusals_show(records.into_iter(), 50);
 }
 
 #[test]
@@ -145,8 +156,9 @@ fn the_sections_are_accepted_with_every_concrete_every_count_of_layers_and_no_fi
 }
 
 #[test]
-fn the_sections_reach_every_kind_of_steel() {
+fn the_sections_reach_every_kind_of_steel_and_of_flange() {
     steel::assert_every_kind(accepted().iter());
+    flange::assert_every_kind(accepted().iter());
 }
 
 /// By the stress at -e1, which is s1.

@@ -52,7 +52,7 @@ fn shuffled(random: &mut Random, section: &Section) -> Vec<Layer> {
 fn built(section: &Section, layers: &[Layer]) -> Vec<Vec<u8>> {
     let mut records = vec![without_bars(section).record()];
     for layer in layers {
-        let mut record = vec![0; 56];
+        let mut record = vec![0; 60];
         let written = rules::add_layer(records.last().unwrap(), *layer, &mut record);
         record.truncate(written.len as usize);
         records.push(record);
@@ -70,10 +70,10 @@ fn steps() -> impl Iterator<Item = Case> {
     })
 }
 
-/// Each case with what is lent for the new record. One that is refused for its length needs no more than the longest.
+/// Each case with what is lent for the new record. One that is refused for its length needs no more than the longest with a ninth layer.
 fn lent() -> impl Iterator<Item = (Case, Vec<u8>)> {
     let cases = damaged().chain(steps());
-    lent::each(cases, |(record, _)| (record.len() + 4).min(60))
+    lent::each(cases, |(record, _)| (record.len() + 4).min(64))
 }
 
 fn add_layer((record, layer): &Case, out: &mut [u8]) -> Written {
@@ -102,19 +102,21 @@ fn layers_added_in_any_order_make_one_section() {
 }
 
 #[test]
-fn the_layers_reach_every_refusal_every_count_and_every_place() {
+fn the_layers_reach_every_refusal_every_count_and_every_place_with_and_without_a_flange() {
     let (mut refusals, mut places) = (BTreeSet::new(), BTreeSet::new());
     for (case, lent) in lent() {
         let (written, out) = written(add_layer, &case, &lent);
         refusals.insert(written.refusal);
         if let Some(section) = Section::read(&out[..written.len as usize]) {
             let place = section.layers.iter().position(|layer| *layer == case.1);
-            places.insert((section.layers.len(), place.unwrap()));
+            places.insert((section.hf != 0, section.layers.len(), place.unwrap()));
         }
     }
-    let every = (1..=8).flat_map(|count| (0..count).map(move |place| (count, place)));
     assert!(refusals.into_iter().eq([0, 6, 12, 19]));
-    assert!(places.into_iter().eq(every));
+    for rib in [false, true] {
+        let every = (1..=8).flat_map(|count| (0..count).map(move |place| (rib, count, place)));
+        assert!(every.into_iter().all(|place| places.contains(&place)));
+    }
 }
 
 /// Adds a layer to the section of a record as a wrong program does, which refuses 12 where it makes none.
@@ -138,7 +140,7 @@ fn in_place(mut section: Section, layer: Layer) -> Section {
 /// How a wrong program adds a layer.
 type Error = (&'static str, fn(&Case, &mut [u8]) -> Written);
 
-const ERRORS: [Error; 13] = [
+const ERRORS: [Error; 16] = [
     ("the layer is put last", |case, out| {
         with(case, out, |section, layer| {
             let mut added = section.with_layer(layer)?;
@@ -150,6 +152,20 @@ const ERRORS: [Error; 13] = [
         let written = add_layer(case, out);
         if written.refusal == 0 {
             out[20..22].copy_from_slice(&case.0[20..22]);
+        }
+        written
+    }),
+    ("the flange is lost", |case, out| {
+        with(case, out, |mut section, layer| {
+            section.hf = 0;
+            section.with_layer(layer)
+        })
+    }),
+    ("the flange is put before the layers", |case, out| {
+        let written = add_layer(case, out);
+        let record = &mut out[..written.len as usize];
+        if record.get(22..24).is_some_and(|hf| hf != [0, 0]) {
+            record[24..].rotate_right(4);
         }
         written
     }),
@@ -190,6 +206,12 @@ const ERRORS: [Error; 13] = [
         with(case, out, |section, layer| {
             let added = section.with_layer(layer);
             added.filter(|added| added.below_mid_height(added.limit_depth()))
+        })
+    }),
+    ("the flange is tested", |case, out| {
+        with(case, out, |section, layer| {
+            let right = section.hf == 0 || section.flange_right();
+            right.then(|| section.with_layer(layer)).flatten()
         })
     }),
     ("the section is tested 7 to 13", |case, out| {

@@ -2,27 +2,18 @@
 //! signs of these sums, as `fw_depths` lists them, under loads that leave zero or next to it.
 use fordwhistle_tests::held::Held;
 use fordwhistle_tests::random::Random;
-use fordwhistle_tests::rules::{self, Amount, Axis, Law, List, Section};
+use fordwhistle_tests::rules::{self, Amount, List, Section};
 use fordwhistle_tests::sections;
-use std::cmp::Ordering::{self, Equal, Greater, Less};
 use std::collections::{BTreeMap, BTreeSet};
 use std::sync::LazyLock;
 use std::thread;
-
-/// Three of every height: each has its own places where the law's pieces end, and a strip that is counted with the
-/// wrong piece shows at some of them alone.
-fn sections() -> impl Iterator<Item = Section> {
-    let mut random = Random::new(11);
-    let heights = (50..=1000).flat_map(|h| [h; 3]);
-    heights.map(move |h| sections::accepted_of(&mut random, h))
-}
 
 /// Some whose imbalances are next to each other at many depths, and low ones whose sums come near to a bound. Both bear
 /// whole N, so that a load can leave exactly zero.
 fn whole_sections() -> impl Iterator<Item = Section> {
     let mut random = Random::new(12);
-    let level = (50..=1000).step_by(3).map(|h| (h, true));
-    let low = (50..=150).flat_map(|h| [(h, false); 20]);
+    let level = (50..=1000).step_by(2).map(|h| (h, true));
+    let low = (50..=150).flat_map(|h| [(h, false); 30]);
     level.chain(low).map(move |(h, level)| {
         let mut section = sections::accepted_of(&mut random, h);
         match level {
@@ -100,10 +91,12 @@ impl Case {
     }
 }
 
-/// The first, the second and the third of every height. Worked out once for every load and every test, by threads of
-/// their own, since most tests have to wait for them.
+/// The first, the second and the third of every height: each has its own places where the law's pieces and the flange
+/// end, and a strip that is counted with the wrong piece or width shows at some of them alone. Worked out once for every
+/// load and every test, by threads of their own, since most tests have to wait for them.
 static RANDOM: LazyLock<[Vec<Case>; 3]> = LazyLock::new(|| {
-    let cases = |first| sections().skip(first).step_by(3).map(Case::of).collect();
+    let sections = |first| sections::of_every_height().skip(first).step_by(3);
+    let cases = move |first| sections(first).map(Case::of).collect();
     thread::scope(|scope| {
         let threads = [0, 1, 2].map(|first| scope.spawn(move || cases(first)));
         threads.map(|thread| thread.join().unwrap())
@@ -158,96 +151,40 @@ fn the_face_lists_the_depths_of_sections_that_are_aimed_at_zero() {
     held.finish();
 }
 
-/// Rounding moves a sum by less than b h mN, and bounds are no further apart: an imbalance of more has its sign by
+/// Rounding moves a sum by less than the true area, and bounds are no further apart: an imbalance of more has its sign by
 /// them, one of zero by its strips alone. One that is next to zero, or an open one, has it by either.
 #[test]
 fn the_bounds_and_the_strips_decide_thousands_of_the_aimed_signs() {
     let mut reached = BTreeMap::new();
     for case in aimed() {
-        let [b, h] = [case.section.b, case.section.h].map(i64::from);
+        let area = case.section.true_area() as i64;
+        let rib = case.section.b < case.section.bf;
         for imbalance in &case.imbalances {
             let far = match imbalance.abs() {
                 0..=1500 => "at zero",
-                size if size > b * h => "by bounds",
+                size if size > area => "by bounds",
                 _ => "open",
             };
-            *reached.entry((imbalance.signum(), far)).or_insert(0) += 1;
+            *reached.entry((rib, imbalance.signum(), far)).or_insert(0) += 1;
         }
     }
+    // Of sections as wide all over, then of ribs.
     for (sign, far, least) in [
-        (0, "at zero", 4927),
-        (-1, "at zero", 7710),
-        (1, "at zero", 7690),
-        (-1, "open", 36_093),
-        (1, "open", 27_974),
-        (-1, "by bounds", 1_782_526),
-        (1, "by bounds", 3_205_138),
+        (0, "at zero", [4915, 2486]),
+        (-1, "at zero", [6621, 3582]),
+        (1, "at zero", [6600, 3583]),
+        (-1, "open", [37_018, 16_796]),
+        (1, "open", [28_543, 14_434]),
+        (-1, "by bounds", [1_344_481, 778_803]),
+        (1, "by bounds", [2_535_194, 1_359_930]),
     ] {
-        let depths = reached[&(sign, far)];
-        assert!(depths >= least, "{depths} {far} of sign {sign}");
+        let depths = [false, true].map(|rib| reached[&(rib, sign, far)]);
+        let enough = depths
+            .iter()
+            .zip(least)
+            .all(|(depths, least)| *depths >= least);
+        assert!(enough, "{depths:?} {far} of sign {sign}");
     }
-}
-
-/// A piece of the law as strips lie on it: the slope of their strain, the piece's number, and whether the size of the
-/// stress is less or greater at the end that is further from the axis.
-type Piece = (i64, usize, Ordering);
-
-/// The most strips on a piece at one depth, and at all depths those whose exact stress is whole: rounding takes nothing
-/// off them, and one that is taken to be less by the least comes out wrong.
-#[derive(Debug, Default)]
-struct Reached {
-    most: usize,
-    whole: usize,
-}
-
-/// Adds what the strips of a section reach with the neutral axis at depth x.
-fn reach(reached: &mut BTreeMap<Piece, Reached>, section: &Section, x: u16) {
-    let (law, axis) = (Law::of(section), Axis::of(section, x));
-    let (mut strips, mut whole) = ([0; 6], [0; 6]);
-    for strip in 0..i64::from(section.h) {
-        let (p, q) = axis.strain(2 * strip + 1);
-        let (num, den) = law.stress(p, q);
-        strips[law.piece(p, q)] += 1;
-        whole[law.piece(p, q)] += usize::from(num % den == 0);
-    }
-    for piece in 0..=5 {
-        let end = match piece {
-            0 | 5 => Equal,
-            4 => Greater,
-            // Of two stresses in tension, the one of greater size is the lesser.
-            line => law.corners[line].1.cmp(&law.corners[line - 1].1),
-        };
-        let reached = reached.entry((axis.slope, piece, end)).or_default();
-        reached.most = reached.most.max(strips[piece]);
-        reached.whole += whole[piece];
-    }
-}
-
-/// The line from zero can only rise. It spans 53 to 202 µ and the next 100, few strips of even a high section.
-#[test]
-fn the_strips_reach_each_piece_rising_and_falling_in_both_strains() {
-    let mut reached = BTreeMap::new();
-    for section in sections().step_by(4) {
-        (1..=section.h).for_each(|x| reach(&mut reached, &section, x));
-    }
-    for (slope, bent) in [(10_000, 150), (3500, 500)] {
-        for (piece, end, most, whole) in [
-            (0, Equal, 400, 1000),
-            (1, Less, 700, 100),
-            (1, Greater, 700, 100),
-            (2, Less, 9, 100),
-            (2, Greater, 9, 100),
-            (3, Greater, 7, 100),
-            (4, Greater, bent, if slope == 3500 { 0 } else { 100 }),
-            (5, Equal, 100, 1000),
-        ] {
-            let reached = &reached[&(slope, piece, end)];
-            let enough = reached.most >= most && reached.whole >= whole;
-            assert!(enough, "{slope} {piece} {end:?}: {reached:?}");
-        }
-    }
-    // For a whole stress on that parabola fcd would have to be a multiple of 64.
-    assert_eq!(reached[&(3500, 4, Greater)].whole, 0);
 }
 
 /// The library is x86-64 code, so only there can a Rust program link it.

@@ -1,11 +1,11 @@
 //! `fw_write_book` held to document 01's section book; what it writes goes there and back.
 use fordwhistle_tests::books::{self, strings};
+use fordwhistle_tests::flange;
 use fordwhistle_tests::held::Held;
-use fordwhistle_tests::lent::{differ, written};
-use fordwhistle_tests::rules::{self, Parts, Section, Written};
+use fordwhistle_tests::lent::written;
+use fordwhistle_tests::rules::{self, Section};
 use fordwhistle_tests::sections;
 use std::collections::{BTreeMap, BTreeSet};
-use std::iter::once;
 
 #[test]
 fn the_face_writes_the_rules_book() {
@@ -81,7 +81,7 @@ fn the_rules_give_the_figures() {
 fn the_strings_are_as_many_as_is_said() {
     let [accepted, damaged] = [strings::accepted().count(), strings::damaged().count()];
     assert_eq!((accepted, damaged), (10_000, 10_200));
-    assert_eq!(strings::all().count(), 25_990);
+    assert_eq!(strings::all().count(), 29_274);
 }
 
 /// The refusals of strings, each lent what any book may have.
@@ -99,19 +99,26 @@ fn the_strings_and_what_is_lent_reach_every_refusal() {
         *reached.entry(written.refusal).or_insert(0) += 1;
     }
     let many = reached.values().all(|count| *count >= 10);
-    let every = once(0).chain(6..=13).chain([19]);
-    assert!(many && reached.keys().copied().eq(every), "{reached:?}");
+    let every = sections::refusals_and([0, 19]);
+    assert!(many && reached.keys().eq(every.iter()), "{reached:?}");
 }
 
 #[test]
 fn each_kind_of_string_leads_where_it_should() {
-    let of_records: BTreeSet<u32> = once(0).chain(6..=13).collect();
+    let of_records = sections::refusals_and([0]);
     assert_eq!(refusals(strings::accepted()), BTreeSet::from([0]));
+    assert_eq!(refusals(strings::lone()), of_records);
     assert_eq!(refusals(strings::mixed()), of_records);
     assert_eq!(refusals(strings::damaged()), of_records);
     assert!(refusals(strings::faulty()).is_superset(&BTreeSet::from([0, 6])));
     assert_eq!(refusals(strings::cut()), BTreeSet::from([0, 6]));
     assert_eq!(refusals(strings::limits()), BTreeSet::from([0, 6, 9, 19]));
+}
+
+#[test]
+fn every_error_in_what_is_refused_would_show_in_the_lone_sections() {
+    sections::assert_order_shows(strings::lone());
+    flange::assert_refusals_show(strings::lone(), 5);
 }
 
 /// Only there does it show what is done with the spacing.
@@ -125,138 +132,11 @@ fn the_sections_without_stirrups_have_spacing_or_none() {
     assert_eq!(spacings.len(), 2);
 }
 
-/// How a wrong program writes.
-type Error = (&'static str, fn(&[u8], &mut [u8]) -> Written);
-
-const ERRORS: [Error; 17] = [
-    ("the index is one record short", |string, book| {
-        with(string, book, |parts| {
-            parts.length -= 4 * u32::from(parts.index.pop().is_some());
-            parts.n = parts.index.len() as u32;
-        })
-    }),
-    ("places count from 1", |string, book| {
-        with(string, book, |parts| {
-            parts.index.iter_mut().for_each(|place| *place += 1)
-        })
-    }),
-    ("the index has the records' ends", |string, book| {
-        with(string, book, |parts| {
-            parts.index.push(parts.place);
-            parts.index.remove(0);
-        })
-    }),
-    ("the length is without the last 16 bytes", |string, book| {
-        with(string, book, |parts| parts.length -= 16)
-    }),
-    ("the index's place is the last record's", |string, book| {
-        with(string, book, |parts| {
-            parts.place = parts.index.pop().unwrap_or(0)
-        })
-    }),
-    ("n is the last record's number", |string, book| {
-        with(string, book, |parts| parts.n = parts.n.saturating_sub(1))
-    }),
-    ("BOOK is written backwards", |string, book| {
-        with(string, book, |parts| parts.letters.reverse())
-    }),
-    ("the first section is written n times", |string, book| {
-        with(string, book, |parts| {
-            let first = parts.records.first().cloned();
-            parts.records.fill(first.unwrap_or_default());
-            parts.settle();
-        })
-    }),
-    ("spacing is kept without stirrups", |string, book| {
-        let kept = rules::book_of(string).map(|_| as_filed(string));
-        Written::of(kept, book)
-    }),
-    ("19 comes before a bad section", |string, book| {
-        let fits = Written::of(Ok(as_filed(string)), &mut book.to_vec());
-        match fits.refusal {
-            19 => fits,
-            _ => rules::write_book(string, book),
-        }
-    }),
-    ("6 comes before another bad section", |string, book| {
-        let records = rules::records(string);
-        let read = records.into_iter().map(Section::read);
-        let all: Option<Vec<Section>> = read.collect();
-        let bytes = all.ok_or(6).and_then(|_| rules::book_of(string));
-        Written::of(bytes.map(|parts| parts.bytes()), book)
-    }),
-    ("the last bad section refuses", |string, book| {
-        let records = rules::records(string).into_iter().rev();
-        let last = records.map(Section::of).find_map(Result::err);
-        let bytes = last.map_or_else(|| rules::book_of(string), Err);
-        Written::of(bytes.map(|parts| parts.bytes()), book)
-    }),
-    ("a byte is written on a refusal", |string, book| {
-        let written = rules::write_book(string, book);
-        if let (1.., Some(byte)) = (written.refusal, book.first_mut()) {
-            *byte = !*byte;
-        }
-        written
-    }),
-    ("what is left over is ignored", |string, book| {
-        let last = rules::records(string).pop().unwrap_or(&[]);
-        let left = if last.len() < 24 { last.len() } else { 0 };
-        rules::write_book(&string[..string.len() - left], book)
-    }),
-    ("a book may be longer than 65,536", |string, book| {
-        let bytes = rules::book_of(string).map_or(vec![], |parts| parts.bytes());
-        match book.get_mut(..bytes.len()) {
-            Some(start) if bytes.len() > 65_536 => {
-                start.copy_from_slice(&bytes);
-                Written {
-                    refusal: 0,
-                    len: bytes.len() as u32,
-                }
-            }
-            _ => rules::write_book(string, book),
-        }
-    }),
-    ("a book is shorter than 65,536", |string, book| {
-        let room = book.len().min(65_535);
-        rules::write_book(string, &mut book[..room])
-    }),
-    ("the bytes past the book are cleared", |string, book| {
-        let written = rules::write_book(string, book);
-        if written.refusal == 0 {
-            book[written.len as usize..].fill(0);
-        }
-        written
-    }),
-];
-
-/// The book of a string's records as they are.
-fn as_filed(string: &[u8]) -> Vec<u8> {
-    let records = rules::records(string).into_iter();
-    Parts::of(records.map(<[u8]>::to_vec).collect()).bytes()
-}
-
-/// Writes the right book with a part of it put wrong.
-fn with(string: &[u8], book: &mut [u8], wrong: fn(&mut Parts)) -> Written {
-    let parts = rules::book_of(string).map(|mut parts| {
-        wrong(&mut parts);
-        parts.bytes()
-    });
-    Written::of(parts, book)
-}
-
-#[test]
-fn every_error_would_show_in_some_books() {
-    let cases: Vec<_> = strings::lent().collect();
-    for (error, wrong) in ERRORS {
-        assert!(differ(wrong, rules::write_book, &cases), "{error}");
-    }
-}
-
 /// The library is x86-64 code, so only there can a Rust program link it.
 #[cfg(target_arch = "x86_64")]
 mod linked {
-    use super::{rules, sections_of, strings, written, Section, Written};
-    use rules::{BookAnswer, RecordAnswer};
+    use super::{rules, sections_of, strings, written, Section};
+    use rules::{BookAnswer, RecordAnswer, Written};
 
     #[link(name = "panel", kind = "static")]
     extern "C" {

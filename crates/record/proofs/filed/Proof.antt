@@ -1,7 +1,13 @@
 -- `filed`: refused or written, by the rule's test. Assumes nothing.
+use Prim.Native.Nat.{_/_}
+use mathlib.Core.Path.{ap, _∙_}
+use native.Mathlib.Omega.{arith}
 use borrow.Author.Tests.{le-leb, lt-leb}
 use borrow.Author.Needs.{needs}
-use Rattle.record.specs.Filed.{filed, filedAnswer}
+use Rattle.arith.specs.Joined.{joined}
+use Rattle.record.specs.Filed.{numberBytes, inPlaces, filedAnswer}
+use Rattle.record.proofs.Length.{flange-size}
+use Rattle.record.proofs.Inverse.{filed-by}
 use Rattle.record.proofs.filed.Statement.{statement}
 use Rattle.record.proofs.filed.Tie as tie
 
@@ -10,10 +16,16 @@ unfolding filedAnswer
 returns c = rw (lt-leb _ 8 (c .if1 .taken))
 
 returns-2 : tie.Need-returns-2
-unfolding filedAnswer filed
+unfolding filedAnswer
 returns-2 c =
-    let e = c .before .before in
-    rw (e .record-size .ensures .0, c .in-bytes .ensures, c .before .numbers .ensures, le-leb _ 8 (e .before .if1 .left))
+    let l = c .before .before .before in
+    let s = l .before .before .args .s in
+    let few = l .before .if1 .left in
+    let all = c .before .with-flange in
+    let is = filed-by s few (c .before .before .numbers .result) (all .result) (c .before .before .numbers .ensures) (all .ensures) in
+    let len = l .record-size .ensures .0 in
+    let bytes = c .in-bytes .ensures ∙ (λ i. inPlaces (joined (numberBytes (all .result)) (len i / 2))) ∙ ap inPlaces is in
+    rw (le-leb _ 8 few) (λ i. record { refusal = 0; len = len i; bytes = bytes i })
 
 pub filed-spec : {M : Type 1} → statement M
 filed-spec =
@@ -21,10 +33,8 @@ filed-spec =
     (tie.spec
     returns
     (λ c κs. search needs)
-    (λ c. search needs)
+    (λ c κs. search needs)
     (λ c κs. search needs)
     (λ c. search needs)
-    (λ c. search needs)
-    (λ c. search needs)
-    (λ c κs. search needs)
+    (λ c κs. omega (arith, c .before .before .record-size .ensures .0, flange-size (c .before .before .before .before .args .s .hf)))
     returns-2)

@@ -24,7 +24,7 @@ unfolding joined
 loop-holds c = (omega arith, refl)
 
 -- ---- a turn
-module _ (numbers : List ℕ) (k : ℕ) (h : k < 28) where
+module _ (numbers : List ℕ) (k : ℕ) (h : k < 30) where
   abbrev done : List ℕ
   done = joined (numberBytes numbers) k
 
@@ -33,8 +33,8 @@ module _ (numbers : List ℕ) (k : ℕ) (h : k < 28) where
 
   turn : (a b : ℕ) → a ≡ getD numbers k 0 % 256 → b ≡ getD numbers k 0 / 256 → set (set (inPlaces done) (2 * k) a) (2 * k + 1) b ≡ inPlaces (joined (numberBytes numbers) (k + 1))
   turn a b p q =
-      let fits : 2 * k + 2 ≤ length (inPlaces done) = rw (over-length done (replicate 56 0) (omega (arith, long))) (omega arith) in
-      rw (p, q, add-one, joined-next (numberBytes numbers) k) (sets-eq (numberBytes numbers k) (inPlaces done) (2 * k) fits ∙ over-part done (numberBytes numbers k) (replicate 56 0) (2 * k) long)
+      let fits : 2 * k + 2 ≤ length (inPlaces done) = rw (over-length done (replicate 60 0) (omega (arith, long))) (omega arith) in
+      rw (p, q, add-one, joined-next (numberBytes numbers) k) (sets-eq (numberBytes numbers k) (inPlaces done) (2 * k) fits ∙ over-part done (numberBytes numbers k) (replicate 60 0) (2 * k) long)
 
 loop-again : tie.Need-loop-again Inv-loop μ-loop
 loop-again c =

@@ -10,6 +10,7 @@ unfolding sectionIn
 returns c =
     let load = c .before .before .before .before in
     let fyk = load .before .before .before .before in
+    let h = fyk .before .before .before .before in
     rw (
       c .layers-in .ensures,
       c .before .layers-at .ensures,
@@ -22,8 +23,10 @@ returns c =
       load .before .before .before .le165 .ensures,
       fyk .le164 .ensures,
       fyk .before .le163 .ensures,
-      fyk .before .before .le162 .ensures,
-      fyk .before .before .before .le16 .ensures,
+      fyk .before .before .flange-width .ensures,
+      fyk .before .before .before .flange-at .ensures,
+      h .le162 .ensures,
+      h .before .le16 .ensures,
     )
 
 pub section-in-spec : {M : Type 1} → statement M
@@ -33,4 +36,5 @@ section-in-spec =
     (λ c κs. search needs) (λ c κs. search needs) (λ c κs. search needs) (λ c κs. search needs)
     (λ c κs. search needs) (λ c κs. search needs) (λ c κs. search needs) (λ c κs. search needs)
     (λ c κs. search needs) (λ c κs. search needs) (λ c κs. search needs) (λ c κs. search needs)
+    (λ c κs. search needs) (λ c κs. search needs)
     returns)

@@ -1,25 +1,33 @@
 //! What makes a book wrong: a fault one of its parts, a damage its bytes.
 use super::any;
 use crate::random::Random;
-use crate::rules::Parts;
+use crate::rules::{record_length, Parts};
 
 /// What is wrong, the refusals that it leads to in a book of two records or more, and what makes it so. In a book of fewer it may do
 /// nothing.
 pub type Fault = (&'static str, &'static [u32], fn(&mut Parts, &mut Random));
 
 /// Those that settle the index anew come first, since they would put others right.
-pub const FAULTS: [Fault; 18] = [
-    // A record is not looked into further than its layer count.
-    ("the zero of a record", &[0], |parts, random| {
-        if let Some(record) = any_record(parts, random) {
-            record[random.pick(&[22, 23])] = random.pick(&[1, 128, 255]);
+pub const FAULTS: [Fault; 20] = [
+    // A record is not looked into further than its layer count and whether it has a flange.
+    ("the zero of a rib", &[0], |parts, random| {
+        if let Some(record) = any_rib(parts, random) {
+            let at = record.len() - random.pick(&[1, 2]);
+            record[at] = random.pick(&[1, 128, 255]);
+        }
+    }),
+    ("another flange height", &[0], |parts, random| {
+        let rib = any_rib(parts, random);
+        if let Some(hf) = rib.and_then(|record| field(record, 22)) {
+            *hf = other_than(*hf, &HEIGHTS, random);
         }
     }),
     ("nine layers or more", &[4], |parts, random| {
         // 264 is 8 in its lower byte.
         let m: u16 = random.pick(&[9, 10, 264]);
         if let Some(record) = any_record(parts, random) {
-            record.resize(24 + 4 * usize::from(m), 1);
+            let hf = field(record, 22).map_or(0, |hf| u16::from_le_bytes(*hf));
+            record.resize(record_length(m.into(), hf.into()) as usize, 1);
             record[20..22].copy_from_slice(&m.to_le_bytes());
         }
         parts.settle();
@@ -49,11 +57,18 @@ pub const FAULTS: [Fault; 18] = [
     }),
     ("a layer count", &[4], |parts, random| {
         let record = any_record(parts, random);
-        if let Some([low, high]) = record.and_then(|record| record.get_mut(20..22)) {
-            let m = u16::from_le_bytes([*low, *high]);
+        if let Some(count) = record.and_then(|record| field(record, 20)) {
+            let m = u16::from_le_bytes(*count);
             let near = [1, 2, 256, u16::MAX].map(|step| m.wrapping_add(step));
             let others = [near, [0, 8, 9, u16::MAX]].concat();
-            [*low, *high] = other_than(m, &others, random).to_le_bytes();
+            *count = other_than(m, &others, random).to_le_bytes();
+        }
+    }),
+    ("a flange or none", &[4], |parts, random| {
+        let record = any_record(parts, random);
+        if let Some(hf) = record.and_then(|record| field(record, 22)) {
+            let flange = random.pick(&HEIGHTS);
+            *hf = if *hf == [0, 0] { flange } else { [0, 0] };
         }
     }),
     // It does no harm to records of one length.
@@ -129,6 +144,9 @@ pub const FAULTS: [Fault; 18] = [
     }),
 ];
 
+/// Heights of a flange: 1, 7, 256 and all bits.
+const HEIGHTS: [[u8; 2]; 4] = [[1, 0], [7, 0], [0, 1], [255, 255]];
+
 /// The refusal that a fault leads to, where there is one and no other.
 pub fn sole((_, to, _): Fault) -> u32 {
     match to {
@@ -148,6 +166,19 @@ pub fn pairs() -> Vec<(Fault, Fault)> {
 fn any_record<'a>(parts: &'a mut Parts, random: &mut Random) -> Option<&'a mut Vec<u8>> {
     let at = random.number() as usize % parts.records.len().max(1);
     parts.records.get_mut(at)
+}
+
+/// One with a flange.
+fn any_rib<'a>(parts: &'a mut Parts, random: &mut Random) -> Option<&'a mut Vec<u8>> {
+    let is_rib = |record: &&mut Vec<u8>| record.get(22..24).is_some_and(|hf| hf != [0, 0]);
+    let ribs: Vec<_> = parts.records.iter_mut().filter(is_rib).collect();
+    let at = random.number() as usize % ribs.len().max(1);
+    ribs.into_iter().nth(at)
+}
+
+/// The 16 bits at a place of a record.
+fn field(record: &mut [u8], at: usize) -> Option<&mut [u8; 2]> {
+    record.get_mut(at..)?.first_chunk_mut()
 }
 
 fn other_than<T: Copy + PartialEq>(was: T, others: &[T], random: &mut Random) -> T {
@@ -190,7 +221,9 @@ pub const DAMAGES: [Damage; 6] = [
     }),
     ("bytes more at the end", &[1], |book, random| {
         let byte = random.pick(&[0, b'K', 255]);
-        book.resize(book.len() + random.within(1..=24) as usize, byte);
+        // Seven zeros behind BOOK would make a length of 75 of its K.
+        let more = random.pick(&[1, 2, 3, 4, 8, 12, 16, 24]);
+        book.resize(book.len() + more, byte);
     }),
     ("bytes more at the front", &[1], |book, random| {
         let more = random.within(1..=24) as usize;

@@ -1,11 +1,12 @@
 //! The strings of records that are tried of the writer, by kind.
 use super::{in_turn, Books, DAMAGES, FAULTS};
 use crate::lent;
+use crate::random::Random;
 use crate::rules::{self, Section};
 use crate::sections;
 
 pub fn all() -> impl Iterator<Item = Vec<u8>> {
-    let refused = mixed().chain(faulty()).chain(damaged());
+    let refused = lone().chain(mixed()).chain(faulty()).chain(damaged());
     accepted().chain(refused).chain(cut()).chain(limits())
 }
 
@@ -20,6 +21,15 @@ pub fn lent() -> impl Iterator<Item = (Vec<u8>, Vec<u8>)> {
 pub fn accepted() -> impl Iterator<Item = Vec<u8>> {
     let mut books = Books::accepted(23);
     (0..10_000).map(move |_| books.whole(0..=6).records.concat())
+}
+
+/// Of one section, accepted or refused.
+pub fn lone() -> impl Iterator<Item = Vec<u8>> {
+    let mut random = Random::new(35);
+    (0..3000).map(move |_| {
+        let section = sections::accepted(&mut random);
+        sections::damaged(&mut random, section)
+    })
 }
 
 /// Of accepted sections and of those that are refused.

@@ -74,9 +74,14 @@ impl Axis {
     }
 }
 
-/// Every strip and bar layer of an accepted section, by this law and this neutral axis.
-fn shares(section: &Section, law: &Law, axis: &Axis) -> Vec<Share> {
-    let [b, h] = [section.b, section.h].map(i64::from);
+/// Every strip and bar layer of an accepted section, by this law, this neutral axis and these widths.
+fn shares(
+    section: &Section,
+    law: &Law,
+    axis: &Axis,
+    width: impl Fn(&Section, u16) -> u16,
+) -> Vec<Share> {
+    let h = i64::from(section.h);
     let share = |area, twice, stress: fn(&Law, i64, i64) -> (i64, i64)| {
         let (p, q) = axis.strain(twice);
         Share {
@@ -85,7 +90,10 @@ fn shares(section: &Section, law: &Law, axis: &Axis) -> Vec<Share> {
             stress: stress(law, p, q),
         }
     };
-    let strips = (0..h).map(|strip| share(b, 2 * strip + 1, Law::stress));
+    let strips = (0..section.h).map(|strip| {
+        let width = width(section, strip);
+        share(width.into(), 2 * i64::from(strip) + 1, Law::stress)
+    });
     let bars = section.layers.iter().map(|layer| {
         share(
             layer.area.into(),
@@ -98,16 +106,22 @@ fn shares(section: &Section, law: &Law, axis: &Axis) -> Vec<Share> {
 
 /// The rules' sums of an accepted section at a depth on the grid: a division for each strip and bar layer.
 pub fn rounded(section: &Section, x: u16) -> Sums<i64> {
-    rounded_by(section, &Law::of(section), &Axis::of(section, x))
+    let (law, axis) = (Law::of(section), Axis::of(section, x));
+    rounded_by(section, &law, &axis, Section::width)
 }
 
-/// The same by another law or another neutral axis, for a test to put them wrong.
-pub fn rounded_by(section: &Section, law: &Law, axis: &Axis) -> Sums<i64> {
+/// The same by another law, another neutral axis or other widths, for a test to put them wrong.
+pub fn rounded_by(
+    section: &Section,
+    law: &Law,
+    axis: &Axis,
+    width: impl Fn(&Section, u16) -> u16,
+) -> Sums<i64> {
     let mut sums = Sums {
         imbalance: -1000 * i64::from(section.load),
         moment: 0,
     };
-    for share in shares(section, law, axis) {
+    for share in shares(section, law, axis, width) {
         let (num, den) = share.stress;
         let force = share.area * (num / den);
         sums.imbalance += force;
@@ -118,7 +132,8 @@ pub fn rounded_by(section: &Section, law: &Law, axis: &Axis) -> Sums<i64> {
 
 /// The exact sums: the same with unrounded stresses.
 pub fn exact(section: &Section, x: u16) -> Sums<Fraction> {
-    let shares = shares(section, &Law::of(section), &Axis::of(section, x));
+    let (law, axis) = (Law::of(section), Axis::of(section, x));
+    let shares = shares(section, &law, &axis, Section::width);
     let force = |share: &Share| Fraction::from(share.stress).times(share.area.into());
     let load = Fraction::new(-1000 * i128::from(section.load), 1);
     Sums {
@@ -132,7 +147,7 @@ pub fn exact(section: &Section, x: u16) -> Sums<Fraction> {
 
 /// The area of concrete and bars: rounding may take one kPa from all of it.
 pub fn area(section: &Section) -> i128 {
-    i128::from(section.b) * i128::from(section.h) + bars(&section.layers)
+    section.true_area() + bars(&section.layers)
 }
 
 /// Listed depths: x, kind, moment.
@@ -173,7 +188,7 @@ pub fn amounts(record: &[u8], x: u32) -> Sums<Amount> {
     }
 }
 
-/// The listed depths of a record's section, or the refusal, 6 to 13.
+/// The listed depths of a record's section, or the refusal.
 pub fn list_of(record: &[u8]) -> Result<List, u32> {
     Section::of(record).map(|section| list(&section))
 }

@@ -41,17 +41,18 @@ pub struct Book<'a> {
     pub bounds: Vec<u64>,
 }
 
-/// A record by where it starts, its layer count and what starts next.
+/// A record by where it starts, its layer count, its flange height and what starts next.
 #[derive(Debug, Clone, Copy)]
 pub struct Bound {
     pub at: u64,
     pub m: u64,
+    pub hf: u64,
     pub next: u64,
 }
 
 impl Bound {
     pub fn end(&self) -> u64 {
-        self.at + record_length(self.m)
+        self.at + record_length(self.m, self.hf)
     }
 }
 
@@ -61,10 +62,18 @@ fn number(bytes: &[u8]) -> u64 {
     bytes.iter().rev().fold(0, add)
 }
 
-/// The layer count of the record that bytes start with. A byte that is not there counts as 0.
-pub fn layer_count(bytes: &[u8]) -> u64 {
-    let from = bytes.get(20..).unwrap_or(&[]);
-    number(&from[..from.len().min(2)])
+/// The layer count and the flange height of the record that bytes start with. A byte that is not there counts as 0.
+fn counts(bytes: &[u8]) -> [u64; 2] {
+    [20, 22].map(|place| {
+        let from = bytes.get(place..).unwrap_or(&[]);
+        number(&from[..from.len().min(2)])
+    })
+}
+
+/// How long the record that bytes start with is, by its own two.
+pub fn own_length(bytes: &[u8]) -> u64 {
+    let [m, hf] = counts(bytes);
+    record_length(m, hf)
 }
 
 impl Book<'_> {
@@ -89,16 +98,20 @@ impl Book<'_> {
         self.bytes.len() as u64
     }
 
-    /// The layer count of a record that starts there.
-    pub fn layer_count(&self, at: u64) -> u64 {
-        layer_count(self.bytes.get(at as usize..).unwrap_or(&[]))
+    /// The bytes from a place on.
+    pub fn from(&self, at: u64) -> &[u8] {
+        self.bytes.get(at as usize..).unwrap_or(&[])
     }
 
     pub fn records(&self) -> impl DoubleEndedIterator<Item = Bound> + '_ {
-        self.bounds.windows(2).map(|pair| Bound {
-            at: pair[0],
-            m: self.layer_count(pair[0]),
-            next: pair[1],
+        self.bounds.windows(2).map(|pair| {
+            let [m, hf] = counts(self.from(pair[0]));
+            Bound {
+                at: pair[0],
+                m,
+                hf,
+                next: pair[1],
+            }
         })
     }
 }
@@ -164,8 +177,7 @@ impl Lines {
         let (refusal, at, len) = match has {
             Ok(()) => {
                 let at = book.bounds.get(number as usize).map_or(0, |at| *at);
-                let len = record_length(book.layer_count(at));
-                (0, at as u32, len as u32)
+                (0, at as u32, own_length(book.from(at)) as u32)
             }
             Err(refusal) => (refusal, 0, 0),
         };

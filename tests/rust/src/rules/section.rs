@@ -21,15 +21,22 @@ pub struct Section {
     pub asw: u16,
     pub spacing: u16,
     pub layers: Vec<Layer>,
+    /// The flange's height, 0 where there is none.
+    pub hf: u16,
+    /// The flange's width, 0 where there is none.
+    pub bf: u16,
 }
 
-/// How long a record of so many layers is.
-pub fn record_length(m: u64) -> u64 {
-    24 + 4 * m
+/// What a lone record is refused by, in the order of the tests.
+pub const REFUSALS: [u32; 9] = [6, 7, 8, 20, 9, 10, 11, 12, 13];
+
+/// How long a record of so many layers is. A flange, where its height is not 0, takes as many bytes as a layer.
+pub fn record_length(m: u64, hf: u64) -> u64 {
+    24 + 4 * (m + u64::from(hf != 0))
 }
 
 impl Section {
-    /// The section of a lone record, or its refusal, 6 to 13.
+    /// The section of a lone record, or its refusal.
     pub fn of(record: &[u8]) -> Result<Section, u32> {
         let section = Section::read(record).ok_or(6u32)?;
         section.refusal().map_or(Ok(section), Err)
@@ -41,16 +48,22 @@ impl Section {
             .chunks_exact(2)
             .map(|word| u16::from_le_bytes([word[0], word[1]]))
             .collect();
-        let &[b, h, fck, fyk, feq2, feq3, low, high, asw, spacing, m, 0, ref bars @ ..] =
+        let &[b, h, fck, fyk, feq2, feq3, low, high, asw, spacing, m, hf, ref rest @ ..] =
             words.as_slice()
         else {
             return None;
         };
-        let right = record.len() as u64 == record_length(m.into()) && m <= 8;
+        let (bars, flange) = rest.split_at_checked(2 * usize::from(m))?;
+        let bf = match (hf, flange) {
+            (0, []) => 0,
+            (1.., &[bf, 0]) => bf,
+            _ => return None,
+        };
         let layer = |bar: &[u16]| Layer {
             depth: bar[0],
             area: bar[1],
         };
+        let right = m <= 8 && record.len().is_multiple_of(2);
         right.then(|| Section {
             b,
             h,
@@ -62,6 +75,8 @@ impl Section {
             asw,
             spacing,
             layers: bars.chunks_exact(2).map(layer).collect(),
+            hf,
+            bf,
         })
     }
 
@@ -80,29 +95,42 @@ impl Section {
             self.asw,
             self.spacing,
             self.layers.len() as u16,
-            0,
+            self.hf,
         ];
         let bars = self.layers.iter().flat_map(|bar| [bar.depth, bar.area]);
+        let flange = [self.bf, 0].into_iter().filter(|_| self.hf != 0);
         head.into_iter()
             .chain(bars)
+            .chain(flange)
             .flat_map(u16::to_le_bytes)
             .collect()
     }
 
-    /// The first of 7 to 13 that holds.
+    /// The first of its refusals.
     pub fn refusal(&self) -> Option<u32> {
+        self.refusals().first().copied()
+    }
+
+    /// Those of 7 to 13 and 20 that hold, in the order of the tests.
+    pub fn refusals(&self) -> Vec<u32> {
         let inside = |limits: RangeInclusive<u16>, n| limits.contains(&n);
         let lines = [
             (7, TABLE.iter().any(|concrete| concrete.fck == self.fck)),
             (8, inside(50..=2000, self.b) && inside(50..=1000, self.h)),
+            (20, self.hf == 0 || self.flange_right()),
             (9, inside(400..=600, self.fyk)),
             (10, self.feq2.max(self.feq3) <= 20_000),
             (11, self.load.unsigned_abs() <= 10_000_000),
             (12, self.bars_right()),
             (13, self.asw == 0 || self.spacing != 0),
         ];
-        let failed = lines.into_iter().find(|(_, passes)| !passes);
-        failed.map(|(number, _)| number)
+        let failed = lines.into_iter().filter(|(_, passes)| !passes);
+        failed.map(|(number, _)| number).collect()
+    }
+
+    /// Whether its flange is in range. There has to be one.
+    pub fn flange_right(&self) -> bool {
+        self.hf < self.h && (self.b..=2000).contains(&self.bf)
     }
 
     fn bars_right(&self) -> bool {
@@ -132,6 +160,19 @@ impl Section {
             self.spacing = 0;
         }
         self
+    }
+
+    /// The width of a strip. Strips are counted from 0 at the compressed face.
+    pub fn width(&self, strip: u16) -> u16 {
+        match strip < self.hf {
+            true => self.bf,
+            false => self.b,
+        }
+    }
+
+    /// The true area, that of all strips, which are 1 mm high.
+    pub fn true_area(&self) -> i128 {
+        (0..self.h).map(|strip| i128::from(self.width(strip))).sum()
     }
 
     pub fn below_mid_height(&self, depth: u16) -> bool {

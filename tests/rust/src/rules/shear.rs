@@ -4,12 +4,13 @@ use super::balance::Amount;
 use super::law::Law;
 use super::section::{bars, Section};
 
-/// k and c in thousandths, axial and fibres in kPa, b d in mm², stirrups and struts in mN.
+/// k, c and kf in thousandths, axial and fibres in kPa, b d in mm², stirrups and struts in mN.
 #[derive(Debug, Clone, Copy)]
 pub struct Shear {
     pub k: i128,
     pub c: i128,
     pub axial: i128,
+    pub kf: i128,
     pub fibres: i128,
     pub bd: i128,
     pub stirrups: i128,
@@ -24,15 +25,17 @@ impl Shear {
 
     /// The same with another effective depth, for a test to put it wrong.
     pub fn by(section: &Section, d: u16) -> Shear {
-        let [b, h, d] = [section.b, section.h, d].map(i128::from);
+        let [b, d] = [section.b, d].map(i128::from);
         let [fck, feq3, asw, s] =
             [section.fck, section.feq3, section.asw, section.spacing].map(i128::from);
         let (bd, load) = (b * d, 1000 * i128::from(section.load));
+        let kf = unlimited_kf(section, q(section), bd).min(1500);
         Shear {
             k: unlimited_k(d).min(2000),
             c: c(bars(&section.steel()), bd, fck),
-            axial: (15 * load).div_euclid(100 * b * h),
-            fibres: 12 * feq3 / 100 * (1600 - d).max(1000) / 1000,
+            axial: (15 * load).div_euclid(100 * section.true_area()),
+            kf,
+            fibres: 12 * feq3 / 100 * (1600 - d).max(1000) * kf / 1_000_000,
             bd,
             stirrups: match asw {
                 0 => 0,
@@ -66,6 +69,16 @@ pub fn c(bars: i128, bd: i128, fck: i128) -> i128 {
 /// c before its limit.
 pub fn unlimited_c(bars: i128, bd: i128, fck: i128) -> i128 {
     root(3, bd, 100_000_000_000 * bars * fck)
+}
+
+pub fn q(section: &Section) -> i128 {
+    let [b, hf, bf] = [section.b, section.hf, section.bf].map(i128::from);
+    (bf - b).min(3 * hf).min(3 * b)
+}
+
+/// kf before its limit, by q. Where hf is 0 it is 1000 by any.
+pub fn unlimited_kf(section: &Section, q: i128, bd: i128) -> i128 {
+    1000 + 1000 * q * i128::from(section.hf) / bd
 }
 
 /// The largest number that fits: its square or cube, times `by`, is at most `bound`. The floating root is within 1 of it.

@@ -1,7 +1,7 @@
 //! What is written: a book out of sections, and a layer into a record. All its bytes are there before the first is put where it is lent, so
 //! a refusal has nothing to take back.
-use super::book::layer_count;
-use super::section::{record_length, Layer, Section};
+use super::book::own_length;
+use super::section::{Layer, Section};
 
 /// `fw_written`, as the header lays it out.
 #[repr(C)]
@@ -39,7 +39,7 @@ pub struct Parts {
 }
 
 impl Parts {
-    /// A book of these records; a good one where each is as long as its layer count says.
+    /// A book of these records; a good one where each is as long as its layer count and its flange height say.
     pub fn of(records: Vec<Vec<u8>>) -> Parts {
         let mut parts = Parts {
             records,
@@ -75,12 +75,12 @@ impl Parts {
     }
 }
 
-/// The records of a string, each as long as its own layer count says. What is left over and is no whole record comes last: it is not of
-/// its length, and so a bad one.
+/// The records of a string, each as long as its own layer count and flange height say. What is left over and is no whole record comes
+/// last: it is not of its length, and so a bad one.
 pub fn records(string: &[u8]) -> Vec<&[u8]> {
     let (mut records, mut rest) = (vec![], string);
     while !rest.is_empty() {
-        let len = record_length(layer_count(rest)) as usize;
+        let len = own_length(rest) as usize;
         let (record, after) = rest.split_at(len.min(rest.len()));
         records.push(record);
         rest = after;
@@ -88,7 +88,7 @@ pub fn records(string: &[u8]) -> Vec<&[u8]> {
     records
 }
 
-/// The book of a string's sections, or the refusal of the first that is bad, 6 to 13.
+/// The book of a string's sections, or the refusal of the first that is bad.
 pub fn book_of(string: &[u8]) -> Result<Parts, u32> {
     let sections = records(string).into_iter().map(Section::of);
     let written = sections.map(|section| Ok(section?.as_written().record()));
