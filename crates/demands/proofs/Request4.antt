@@ -6,6 +6,7 @@ use mathlib.Core.List.{List}
 use lib.Dec.{eqb}
 use lib.IntN.{ℤ, pos}
 use lib.ListN.{length}
+use Rattle.arith.specs.Joined.{joined}
 use Rattle.arith.specs.Sums.{sumN}
 use Rattle.section.specs.declared.Section.{Section}
 use Rattle.section.specs.declared.Amount.{Amount}
@@ -23,16 +24,16 @@ use Rattle.depths.specs.declared.Listing.{Listing}
 use Rattle.depths.specs.Depths.{written}
 use Rattle.depths.specs.Answers.{listAnswer, rowAfter}
 use Rattle.shear.specs.Shear.{kfOf, shearAnswer}
-use Rattle.record.specs.Record.{recordRefusal, sectionIn}
+use Rattle.record.specs.Record.{flangeSize, recordRefusal, sectionIn}
 use Rattle.record.specs.Alone.{StandsAlone}
-use Rattle.record.specs.Filed.{filed, asWritten, filedAnswer}
+use Rattle.record.specs.Filed.{unsigned32, placesOf, filed, asWritten, filedAnswer}
 use Rattle.record.proofs.Alone.{record-stands}
 use Rattle.forces.proofs.Answers.{amount-is}
 use Rattle.panel.specs.Face.{imbalanceOf, momentOf, listOf, rowOf, shearOf}
 use Rattle.demands.proofs.Demand2.{list-is, list-of, shear-is}
 use Rattle.demands.proofs.Shapes.{amounts, grants}
 use Rattle.demands.specs.Demand2.{ListIs}
-use Rattle.demands.specs.Request4.{rectangle, Level, Two, plainImbalance, plainMoment, plainShear, ListBefore, rib, Request4}
+use Rattle.demands.specs.Request4.{rectangle, Level, Two, plainImbalance, plainMoment, plainShear, ListBefore, rib, ribRecord, Request4}
 use Rattle.demands.proofs.Plain.{Plain, flat-plain, level-plain, imbalance-plain, moment-plain, list-plain, shear-plain}
 use Rattle.demands.proofs.Plain.{law-alike, draw-alike, imbalance-alike, moment-alike, shear-alike, list-alike, row-alike, filed-alike, added-alike}
 
@@ -70,6 +71,10 @@ of-read : {X : Type 0} (r : List ℕ) (y z : X) {x : X} → StandsAlone r → x 
 of-read r y z alone is = rw (record-stands r .1 alone) at is
 
 -- ---- the request's rib
+rib-record : filed rib ≡ ribRecord
+unfolding filed placesOf joined flangeSize unsigned32
+rib-record = refl
+
 rib-area : concreteArea rib ≡ 128000
 unfolding sumN
 rib-area = refl
@@ -150,5 +155,5 @@ request4 = record {
   fw-moment-before = λ κs a x e p f h. moment-before (flat-plain f) (a .1 .0) (grants amounts (recordRefusal (a .0 .now)) _ p h .1) h;
   fw-depths-before = λ κs a x e p f h. list-before (flat-plain f) (a .1 .0 .now) x (list-of (a .0 .now) (a .1 .0 .now) (p .0) (p .1) h);
   fw-shear-before = λ κs a x e p f h. shear-before (flat-plain f) (grants amounts (recordRefusal (a .0 .now)) _ p h .1) h;
-  figures = (rib-area, rib-depth, rib-kf);
+  figures = (rib-record, rib-area, rib-depth, rib-kf);
 }

@@ -28,7 +28,8 @@ Again bytes parts count records before x after =
     records ≡ joined parts count → length bytes ≤ length before → (x .refusal ≡ 0) × (x .len ≡ length bytes) × (take (x .len) after ≡ bytes)
 
 pub record Request1 : Type 0 where
-  -- reading a written book gives the same sections in order, through `record` and `section_of`
+  -- reading a written book gives the same sections in order, through `record` and `section_of`, with spacing 0 where there are no stirrups; of a record
+  -- they have zeros past the layer count already, and bf read as 0 where hf is 0
   pub counted : Every.write-book (λ records before x after. x .refusal ≡ 0 → Every.book (Counted records x after))
   pub same :
       Every.write-book

@@ -2,7 +2,7 @@
 -- document 01 answers, written out here with the width b at every strip.
 use Prim.Native.Nat.{ℕ, _+_, _*_, _-_, _/_, _<_, min, max}
 use mathlib.Core.Path.{_≡_}
-use mathlib.Core.List.{List, _∷_}
+use mathlib.Core.List.{List, [], _∷_}
 use lib.IntN.{ℤ, pos, _+ℤ_, _-ℤ_, _*ℤ_}
 use lib.ListN.{length, replicate}
 use Rattle.arith.specs.Sums.{sumZ}
@@ -17,6 +17,7 @@ use Rattle.depths.specs.declared.Listing.{Listing}
 use Rattle.depths.specs.Depths.{Entry, kindOf, listTo, written}
 use Rattle.shear.specs.Shear.{kOf, cOf, atLeastZero, kfOf, stirrups, struts}
 use Rattle.record.specs.Record.{sectionIn}
+use Rattle.record.specs.Filed.{filed}
 use Rattle.record.specs.Alone.{StandsAlone}
 use Rattle.demands.specs.Every as Every
 
@@ -89,7 +90,7 @@ plainShear s =
 abbrev pub ListBefore : Section → List ℤ → Listing → List ℤ → Type 0
 ListBefore s before x after = (x .count ≡ length (plainList s)) × (after ≡ written (plainList s) before)
 
--- ---- the request's rib: area 128000, and kf 1266 at its d of 360
+-- ---- the request's rib: its record, area 128000, and kf 1266 at its d of 360
 abbrev pub rib : Section
 rib = record {
   b = 200;
@@ -106,6 +107,17 @@ rib = record {
   count = 1;
   layers = record { depth = 360; area = 1000 } ∷ replicate 7 noLayer;
 }
+
+abbrev pub ribRecord : List ℕ
+ribRecord =
+    200 ∷ 0 ∷ 144 ∷ 1 ∷ 30 ∷ 0 ∷ 244 ∷ 1 ∷ 208 ∷ 7 ∷ 208 ∷ 7
+    ∷ 160 ∷ 134 ∷ 1 ∷ 0 ∷ 0 ∷ 0 ∷ 0 ∷ 0 ∷ 1 ∷ 0 ∷ 80 ∷ 0
+    ∷ 104 ∷ 1 ∷ 232 ∷ 3
+    ∷ 32 ∷ 3 ∷ 0 ∷ 0
+    ∷ []
+
+abbrev pub RibFigures : Type 0
+RibFigures = (filed rib ≡ ribRecord) × (concreteArea rib ≡ 128000) × (lawOf rib .d ≡ 360) × (kfOf 360 rib ≡ 1266)
 
 pub record Request4 : Type 0 where
   -- hf 0: bf is ignored by every call that takes a section. What is filed has none; to a section with a layer added it is still handed on
@@ -145,4 +157,4 @@ pub record Request4 : Type 0 where
   pub fw-depths :
       Every.fw-depths (λ r before x after. Every.fw-depths (λ q row y left. Two Level r q → row ≡ before → (x ≡ y) × (after ≡ left)))
   pub fw-shear : Every.fw-shear (λ r x. Every.fw-shear (λ q y. Two Level r q → x ≡ y))
-  pub figures : (concreteArea rib ≡ 128000) × (lawOf rib .d ≡ 360) × (kfOf 360 rib ≡ 1266)
+  pub figures : RibFigures
