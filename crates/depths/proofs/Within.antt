@@ -1,22 +1,25 @@
 -- The imbalance of a section at a depth, by bounds of its strips' force. Assumes nothing.
 use Prim.Native.Nat.{ℕ, zero, suc, _+_, _*_, _-_, _^_, _≤_, _<_}
-use mathlib.Core.Path.{_≡_, sym, ap, _∙_}
+use mathlib.Core.Path.{_≡_, refl, sym, ap, _∙_}
 use mathlib.Core.Bool.{true}
+use mathlib.Core.Logic.{_⊎_, inl, inr, ⊎-elim}
 use native.Mathlib.Nat as NatL
 use native.Mathlib.Omega.{arith}
 use lib.IntN.{ℤ, pos, natAbs, _+ℤ_, _-ℤ_, _*ℤ_}
 use lib.Signed.{ltZ, _≤ℤ_, _<ℤ_}
 use mir.Syntax.{w64}
-use mir.Val.{toZ}
+use mir.Val.{toZ, SFits}
+use borrow.Author.Tests.{lt-ltb, le-ltb}
 use Rattle.arith.specs.Sums.{sumZ, after}
+use Rattle.arith.proofs.Tests.{less-or-not}
 use Rattle.arith.proofs.Sums.{signed-cut}
 use Rattle.arith.proofs.Signed.{zarith, le-parts, parts-add, parts-minus, up-scale, dn-scale, mul-add, lt-test, test-lt}
-use Rattle.arith.proofs.Machine.{back, Stands, stands, stands-pos, stands-add, stands-sub, stands-mul, stored}
+use Rattle.arith.proofs.Machine.{back, Stands, stands, stands-pos, stands-add, stands-sub, stands-mul, stands-fits, stored}
 use Rattle.section.specs.declared.Section.{Section}
 use Rattle.section.specs.Accepted.{Accepted}
 use Rattle.section.specs.Has.{widthAt, loadOf}
 use Rattle.section.proofs.Load.{loadHeld, load-in-mN}
-use Rattle.section.proofs.Widths.{flange-width, web-width, flange-inside}
+use Rattle.section.proofs.Widths.{flange-width, web-width}
 use Rattle.law.specs.declared.Law.{Law}
 use Rattle.law.specs.Law.{lawOf}
 use Rattle.strips.specs.declared.Axis.{Axis}
@@ -25,7 +28,7 @@ use Rattle.strips.specs.Strips.{scaleOf, stripAt}
 use Rattle.strips.specs.Code.{Holds}
 use Rattle.forces.specs.Forces.{strainScale, stripForce, barForce, forces, imbalance}
 use Rattle.forces.proofs.Strips.{strip-is}
-use Rattle.depths.specs.Code.{mostRun, mostBars, Lies}
+use Rattle.depths.specs.Code.{mostRun, mostBars, Lies, runEnd, Summed}
 
 -- ---- so many times a sum
 scaled : (w n : ℕ) (f g : ℕ → ℤ) → ((i : ℕ) → i < n → f i ≡ pos w *ℤ g i) → sumZ n f ≡ pos w *ℤ sumZ n g
@@ -50,26 +53,87 @@ run-lies {w} wide sum {r} b =
     rw (stored low (omega arith) .is, stored high (omega arith) .is)
     (record { above = scale-le w _ _ (b .above); below = scale-le w _ _ (b .below); low-most = low .most; high-most = high .most })
 
-pub wider : {F : ℤ} {m n : ℕ} {r : Range} → m ≤ n → Lies F m r → Lies F n r
+-- a sum of forces and one more
+module _ {F G : ℤ} {m n : ℕ} {r t : Range} (b : Lies F m r) (c : Lies G n t) (room : m + n < 2 ^ 63) where
+  low-stands : Stands (r .low +ℤ back (t .low)) (r .low +ℤ t .low) (m + n)
+  low-stands = stands-add (stands (r .low) m (b .low-most)) (stored (stands (t .low) n (c .low-most)) (omega arith))
+
+  high-stands : Stands (r .high +ℤ back (t .high)) (r .high +ℤ t .high) (m + n)
+  high-stands = stands-add (stands (r .high) m (b .high-most)) (stored (stands (t .high) n (c .high-most)) (omega arith))
+
+  low-fits : SFits w64 (r .low +ℤ back (t .low))
+  low-fits = stands-fits low-stands room
+
+  high-fits : SFits w64 (r .high +ℤ back (t .high))
+  high-fits = stands-fits high-stands room
+
+  both-lie : Lies (F +ℤ G) (m + n) (record { low = back (r .low +ℤ back (t .low)); high = back (r .high +ℤ back (t .high)) })
+  both-lie =
+      rw (stored low-stands room .is, stored high-stands room .is)
+      (record {
+        above = omega (arith, zarith, b .above, c .above, parts-add F G, parts-add (r .low) (t .low));
+        below = omega (arith, zarith, b .below, c .below, parts-add F G, parts-add (r .high) (t .high));
+        low-most = low-stands .most;
+        high-most = high-stands .most;
+      })
+
+wider : {F : ℤ} {m n : ℕ} {r : Range} → m ≤ n → Lies F m r → Lies F n r
 wider h b = record { above = b .above; below = b .below; low-most = omega (arith, b .low-most); high-most = omega (arith, b .high-most) }
 
-module _ (y z : ℤ) {m n : ℕ} (h : natAbs y ≤ m) (k : natAbs z ≤ n) (room : m + n < 2 ^ 63) where
-  pub plus : Stands (back y +ℤ back z) (y +ℤ z) (m + n)
-  plus = stands-add (stored (stands y m h) (omega arith)) (stored (stands z n k) (omega arith))
+-- ---- the runs: flange and web
+module _ (s : Section) (from : ℕ) where
+  pub one-width : (i : ℕ) → from ≤ i → i < runEnd s from → widthAt s i ≡ widthAt s from
+  one-width i h k =
+      ⊎-elim (λ p. flange-width s i (rw (lt-ltb from (s .hf) p) at k) ∙ sym (flange-width s from p))
+      (λ p. web-width s i (omega arith) ∙ sym (web-width s from p)) (less-or-not from (s .hf))
 
-pub both-lie :
-    {F G : ℤ} {m n : ℕ} {r t : Range} → Lies F m r → Lies G n t → m + n < 2 ^ 63
-    → Lies (F +ℤ G) (m + n) (record { low = back (back (r .low) +ℤ back (t .low)); high = back (back (r .high) +ℤ back (t .high)) })
-both-lie {F} {G} {m} {n} {r} {t} b c room =
-    let low = plus (r .low) (t .low) (b .low-most) (c .low-most) room in
-    let high = plus (r .high) (t .high) (b .high-most) (c .high-most) room in
-    rw (stored low room .is, stored high room .is)
-    (record {
-      above = omega (arith, zarith, b .above, c .above, parts-add F G, parts-add (r .low) (t .low));
-      below = omega (arith, zarith, b .below, c .below, parts-add F G, parts-add (r .high) (t .high));
-      low-most = low .most;
-      high-most = high .most;
-    })
+  -- it ends at the flange's underside, where it began above it, or else at the section's
+  pub run-ends : ((from < s .hf) × (runEnd s from ≡ s .hf)) ⊎ ((s .hf ≤ from) × (runEnd s from ≡ s .h))
+  run-ends = ⊎-elim (λ p. inl (p, rw (lt-ltb from (s .hf) p))) (λ p. inr (p, rw (le-ltb from (s .hf) p))) (less-or-not from (s .hf))
+
+  pub run-longer : s .hf ≤ s .h → from < s .h → (from < runEnd s from) × (runEnd s from ≤ s .h)
+  run-longer inside more = ⊎-elim (λ p. (omega (arith, p), omega (arith, p))) (λ p. (omega (arith, p), omega (arith, p))) run-ends
+
+module _ {s : Section} {force : ℕ → ℤ} where
+  pub summed-none : Summed s force 0 (record { low = pos 0; high = pos 0 })
+  unfolding sumZ
+  summed-none = record {
+    runs = 0;
+    two = omega arith;
+    one = λ h. omega arith;
+    none = λ h. refl;
+    inside = omega arith;
+    lies = record { above = omega (arith, zarith); below = omega (arith, zarith); low-most = omega arith; high-most = omega arith };
+  }
+
+  pub summed-all : {from : ℕ} {r : Range} → Summed s force from r → s .h ≤ from → Lies (sumZ (s .h) force) (mostRun * 2) r
+  summed-all {from} b h = let e : from ≡ s .h = omega (arith, b .inside) in rw e at (wider {n = mostRun * 2} (omega (arith, b .two)) (b .lies))
+
+  -- one run more
+  module _ {from : ℕ} {r t : Range} {G : ℤ} (inside : s .hf ≤ s .h) (b : Summed s force from r) (more : from < s .h) (c : Lies G mostRun t) where
+    room : mostRun * b .runs + mostRun < 2 ^ 63
+    room = omega (arith, b .one more)
+
+    pub low-runs : SFits w64 (r .low +ℤ back (t .low))
+    low-runs = low-fits (b .lies) c room
+
+    pub high-runs : SFits w64 (r .high +ℤ back (t .high))
+    high-runs = high-fits (b .lies) c room
+
+    pub summed-next :
+        {end : ℕ} → end ≡ runEnd s from → sumZ from force +ℤ G ≡ sumZ (runEnd s from) force
+        → Summed s force end (record { low = back (r .low +ℤ back (t .low)); high = back (r .high +ℤ back (t .high)) })
+    summed-next is e =
+        let ends = run-ends s from in
+        rw is
+        (record {
+          runs = b .runs + 1;
+          two = omega (arith, b .one more);
+          one = λ k. ⊎-elim (λ p. omega (arith, b .none (p .0))) (λ p. absurd (omega (arith, p .1))) ends;
+          none = λ k. ⊎-elim (λ p. absurd (omega (arith, p .1))) (λ p. absurd (omega (arith, p .1))) ends;
+          inside = run-longer s from inside more .1;
+          lies = rw (← e) (wider (omega arith) (both-lie (b .lies) c room));
+        })
 
 -- ---- the strips' force: a run of strips of one width, and all of them
 module _ {s : Section} (ok : Accepted s) {l : Law} (law : l ≡ lawOf s) (a : Axis) (scale : scaleOf a ≡ strainScale (lawOf s) (a .x)) where
@@ -82,26 +146,13 @@ module _ {s : Section} (ok : Accepted s) {l : Law} (law : l ≡ lawOf s) (a : Ax
   run-is w from to h wide =
       scaled w (to - from) _ _ (λ i k. (λ j. pos (wide (from + i) (omega arith) (omega arith) j) *ℤ sym (strip-is s l a ok law scale (from + i)) j))
 
-  abbrev flange : ℤ
-  flange = pos (s .bf) *ℤ sumZ (s .hf - 0) (after 0 (stripAt l a))
+  whole : (n : ℕ) → sumZ (n - 0) (after 0 force) ≡ sumZ n force
+  whole n = λ j. sumZ (NatL.sub-zero n j) (λ i. force (NatL.zero-add i j))
 
-  abbrev web : ℤ
-  web = pos (s .b) *ℤ sumZ (s .h - s .hf) (after (s .hf) (stripAt l a))
-
-  flange-is : sumZ (s .hf - 0) (after 0 force) ≡ flange
-  flange-is = run-is (s .bf) 0 (s .hf) (omega arith) (λ i p q. flange-width s i q)
-
-  web-is : sumZ (s .h - s .hf) (after (s .hf) force) ≡ web
-  web-is = run-is (s .b) (s .hf) (s .h) (flange-inside ok) (λ i p q. web-width s i p)
-
-  all : sumZ (s .h - 0) (after 0 force) ≡ sumZ (s .h) force
-  all = λ j. sumZ (NatL.sub-zero (s .h) j) (λ i. force (NatL.zero-add i j))
-
-  pub web-alone : s .hf ≡ 0 → web ≡ sumZ (s .h) force
-  web-alone e = sym web-is ∙ ap (λ n. sumZ (s .h - n) (after n force)) e ∙ all
-
-  pub flange-and-web : flange +ℤ web ≡ sumZ (s .h) force
-  flange-and-web = (λ j. sym flange-is j +ℤ sym web-is j) ∙ sym (signed-cut force 0 (s .hf) (s .h) (omega arith) (flange-inside ok)) ∙ all
+  -- the strips before a run and those of it
+  pub run-on : (from to : ℕ) → from ≤ to → ((i : ℕ) → from ≤ i → i < to → widthAt s i ≡ widthAt s from)
+      → sumZ from force +ℤ (pos (widthAt s from) *ℤ sumZ (to - from) (after from (stripAt l a))) ≡ sumZ to force
+  run-on from to h wide = (λ j. sym (whole from) j +ℤ sym (run-is (widthAt s from) from to h wide) j) ∙ sym (signed-cut force 0 from to (omega arith) h) ∙ whole to
 
 -- ---- the code's steps: bars less the load, and a bound of the strips' force with them
 module _ {s : Section} (ok : Accepted s) (B : ℤ) (few : natAbs B ≤ mostBars) where
@@ -111,8 +162,8 @@ module _ {s : Section} (ok : Accepted s) (B : ℤ) (few : natAbs B ≤ mostBars)
   pub rest : Stands loadLess (B -ℤ loadOf s) (mostBars + 1000 * 10000000)
   rest = stands-sub (stored (stands B mostBars few) (omega arith)) (stored (load-in-mN ok) (omega arith))
 
-  pub bounded : (z : ℤ) → natAbs z ≤ mostRun + mostRun → Stands (back z +ℤ back loadLess) (z +ℤ (B -ℤ loadOf s)) (mostRun + mostRun + (mostBars + 1000 * 10000000))
-  bounded z small = stands-add (stored (stands z (mostRun + mostRun) small) (omega arith)) (stored rest (omega arith))
+  pub bounded : (z : ℤ) → natAbs z ≤ mostRun * 2 → Stands (back z +ℤ back loadLess) (z +ℤ (B -ℤ loadOf s)) (mostRun * 2 + (mostBars + 1000 * 10000000))
+  bounded z small = stands-add (stored (stands z (mostRun * 2) small) (omega arith)) (stored rest (omega arith))
 
 -- ---- the sign of the imbalance by a bound on one side of zero
 module _ (s : Section) (x : ℕ) {B : ℤ} (bars : B ≡ sumZ (s .count) (barForce (lawOf s) s x)) {z : ℤ} where

@@ -3,9 +3,11 @@ use Prim.Native.Nat.{ℕ, _+_, _*_, _≤_, _<_}
 use mathlib.Core.Path.{_≡_}
 use mathlib.Core.Bool.{cond}
 use mathlib.Core.List.{List}
+use lib.Dec.{ltb}
 use lib.IntN.{ℤ, pos, natAbs}
 use lib.ListN.{getD}
 use lib.Signed.{ltZ, _≤ℤ_}
+use Rattle.arith.specs.Sums.{sumZ}
 use Rattle.section.specs.declared.Section.{Section}
 use Rattle.strips.specs.declared.Range.{Range}
 use Rattle.forces.specs.Forces.{imbalance}
@@ -17,9 +19,22 @@ pub record Lies (force : ℤ) (most : ℕ) (r : Range) : Type 0 where
   pub low-most : natAbs (r .low) ≤ most
   pub high-most : natAbs (r .high) ≤ most
 
+-- the strip that the run of one width from a strip on ends before: at the flange's underside, or at the section's
+abbrev pub runEnd : Section → ℕ → ℕ
+runEnd s from = cond (ltb from (s .hf)) (s .hf) (s .h)
+
 -- 2,000 times the most that a bound of a run of strips is
 abbrev pub mostRun : ℕ
 mostRun = 2000 * 4294967296
+
+-- the forces of the strips up to one are summed, by so many runs: two at most, one where there are more strips, none within the flange
+pub record Summed (s : Section) (force : ℕ → ℤ) (from : ℕ) (r : Range) : Type 0 where
+  pub runs : ℕ
+  pub two : runs ≤ 2
+  pub one : from < s .h → runs ≤ 1
+  pub none : from < s .hf → runs ≡ 0
+  pub inside : from ≤ s .h
+  pub lies : Lies (sumZ from force) (mostRun * runs) r
 
 -- no layer's force is larger than the largest area at the largest fyd, and there are 8
 abbrev pub mostBars : ℕ

@@ -7,12 +7,12 @@ ghost use lib.IntN.{pos, natAbs, _*ℤ_};
 ghost use lib.ListN.{length, replicate};
 ghost use Rattle.arith.specs.Sums.{sumZ, after};
 ghost use Rattle.section.specs.Accepted.{Accepted};
-ghost use Rattle.section.specs.Has.{lastDepth};
+ghost use Rattle.section.specs.Has.{widthAt, lastDepth};
 ghost use Rattle.law.specs.Law.{lawOf};
 ghost use Rattle.strips.specs.Strips.{scaleOf, stripAt};
 ghost use Rattle.forces.specs.Forces.{strainScale, stripForce, barForce, imbalance, moment};
 ghost use Rattle.depths.specs.Depths.{kindAt, listed, written};
-ghost use Rattle.depths.specs.Code.{mostRun, mostBars, Lies, signOf, Kept};
+ghost use Rattle.depths.specs.Code.{mostRun, mostBars, Lies, runEnd, signOf, Kept};
 ghost use Rattle.depths.specs.Answers.{unlisted, listAnswer, rowAfter};
 use law::Law;
 use section::Section;
@@ -23,6 +23,12 @@ use strips::Range;
 pub struct Listing {
     pub refusal: u32,
     pub count: u32,
+}
+
+// Strips of one width up to a strip, which is not among them.
+struct Run {
+    width: u16,
+    end: u16,
 }
 
 impl Listing {
@@ -49,19 +55,42 @@ fn run_force(width: u16, law: Law, axis: Axis, from: u16, to: u16) -> Range
     }
 }
 
-// Where the force of all strips lies: flange and web are a run each, and without a flange the web is all.
+// The run of strips of one width that begins at a strip: flange or web.
+fn run_from(section: Section, from: u16) -> Run
+    ensures { λ r. ⌜ (r .width ≡ widthAt section from) × (r .end ≡ runEnd section from) ⌝ }
+{
+    if from < section.hf {
+        return Run {
+            width: section.bf,
+            end: section.hf,
+        };
+    }
+    Run {
+        width: section.b,
+        end: section.h,
+    }
+}
+
+// Where the force of all strips lies, run after run. With one call for both runs, in a loop, the compiler puts the bounds in its place, and a
+// rectangle's list takes two thirds of the time.
 fn strips_force(section: Section, law: Law, axis: Axis) -> Range
     requires { ⌜ (Accepted section) × (law ≡ lawOf section) × (scaleOf axis ≡ strainScale (lawOf section) (axis .x)) ⌝ }
-    ensures { λ r. ⌜ Lies (sumZ (section .h) (stripForce (lawOf section) section (axis .x))) (mostRun + mostRun) r ⌝ }
+    ensures { λ r. ⌜ Lies (sumZ (section .h) (stripForce (lawOf section) section (axis .x))) (mostRun * 2) r ⌝ }
 {
-    let web = run_force(section.b, law, axis, section.hf, section.h);
-    if section.hf == 0 {
-        return web;
+    let h = section.h;
+    let mut low: i64 = 0;
+    let mut high: i64 = 0;
+    let mut from: u16 = 0;
+    while from < h {
+        let run = run_from(section, from);
+        let force = run_force(run.width, law, axis, from, run.end);
+        low = low + force.low;
+        high = high + force.high;
+        from = run.end;
     }
-    let flange = run_force(section.bf, law, axis, 0, section.hf);
     Range {
-        low: flange.low + web.low,
-        high: flange.high + web.high,
+        low: low,
+        high: high,
     }
 }
 
