@@ -35,7 +35,7 @@ pub record GoodBook (s : List ℕ) : Type 0 where
   pub index : IndexStands s
   pub records : RecordsStand s
 
--- a part shows record i: it has the record's 24 + 4m bytes, and each is the book's, from the record's place on
+-- a part shows record i: it has as many bytes as the record's m and hf say, and each is the book's, from the record's place on
 pub record Shows (s : List ℕ) (i : ℕ) (part : List ℕ) : Type 0 where
   pub size : length part ≡ sizeAt s (startOf s i)
   pub bytes : (j : ℕ) → j < sizeAt s (startOf s i) → getD part j 0 ≡ getD s (startOf s i + j) 0

@@ -2,7 +2,7 @@
 use Prim.Native.Nat.{ℕ, _-_}
 use mathlib.Core.Path.{_≡_, refl, sym, ap, _∙_}
 use mathlib.Core.Bool.{cond}
-use mathlib.Core.List.{List}
+use mathlib.Core.List.{List, [], _∷_}
 use lib.Dec.{eqb}
 use lib.IntN.{ℤ, pos}
 use lib.ListN.{length}
@@ -29,11 +29,17 @@ use Rattle.record.specs.Alone.{StandsAlone}
 use Rattle.record.specs.Filed.{unsigned32, placesOf, filed, asWritten, filedAnswer}
 use Rattle.record.proofs.Alone.{record-stands}
 use Rattle.forces.proofs.Answers.{amount-is}
-use Rattle.panel.specs.Face.{imbalanceOf, momentOf, listOf, rowOf, shearOf}
+use Rattle.panel.specs.Face.{drawnOf, imbalanceOf, momentOf, listOf, rowOf, shearOf}
 use Rattle.demands.proofs.Demand2.{list-is, list-of, shear-is}
 use Rattle.demands.proofs.Shapes.{amounts, grants}
+use Rattle.demands.proofs.Table.{exactly, without-line, section-first}
+use Rattle.demands.specs.Table.{_unless_}
+use Rattle.demands.specs.Demand1.{ByTable}
+use Rattle.section.specs.Accepted.{ConcreteIn, SizesIn, FlangeIn}
+use Rattle.drawn.specs.declared.Drawn.{Drawn}
+use native.Mathlib.Omega.{arith}
 use Rattle.demands.specs.Demand2.{ListIs}
-use Rattle.demands.specs.Request4.{rectangle, Level, Two, plainImbalance, plainMoment, plainShear, ListBefore, rib, ribRecord, Request4}
+use Rattle.demands.specs.Request4.{plainLines, Flat, rectangle, Level, Two, plainImbalance, plainMoment, plainShear, ListBefore, rib, ribRecord, Request4}
 use Rattle.demands.proofs.Plain.{Plain, flat-plain, level-plain, imbalance-plain, moment-plain, list-plain, shear-plain}
 use Rattle.demands.proofs.Plain.{law-alike, draw-alike, imbalance-alike, moment-alike, shear-alike, list-alike, row-alike, filed-alike, added-alike}
 
@@ -97,10 +103,21 @@ module _ {s : Section} (p : Plain s) {t : Section} (e : t ≡ rectangle s) {befo
     alike-at rowAfter (row-alike p before) e r (a .1) (b .1),
   )
 
+-- 20 does not hold
+refusal-before : (s : Section) → Flat s → {x : ℕ} → x ≡ sectionRefusal s → ByTable (plainLines s) x
+refusal-before s e is =
+    rw is
+    (exactly (plainLines s) (sectionRefusal s)
+    (without-line ((7 unless ConcreteIn s) ∷ (8 unless SizesIn s) ∷ []) _ (20 unless FlangeIn s) (sectionRefusal s) (λ some. absurd (omega arith)) (section-first s)))
+
 -- ---- by the C face
 module _ {r q : List ℕ} (two : Two Level r q) where
   abbrev plain : Plain (sectionIn r)
   plain = level-plain (two .what)
+
+  face-draw : {d e : ℤ} {x y : Drawn} → e ≡ d → x ≡ drawnOf r d → y ≡ drawnOf q e → x ≡ y
+  unfolding drawnOf
+  face-draw {d} k is js = alike-at drawnAnswer (draw-alike plain d) (two .same) k (of-read r _ _ (two .rib) is) (of-read q _ _ (two .other) js)
 
   face-imbalance : {d e : ℕ} {x y : Amount} → e ≡ d → x ≡ imbalanceOf r d → y ≡ imbalanceOf q e → x ≡ y
   unfolding imbalanceOf
@@ -138,15 +155,19 @@ request4 = record {
   shear = λ κs a x e p f κ b y g q r. alike shearAnswer (shear-alike (flat-plain f)) r p q;
   filed = λ κs a x e p f κ b y g q r. alike filedAnswer (filed-alike (a .0) f) r p q;
   record-of = λ κs a x e p f κ b y g q r. alike (λ v. filedAnswer (asWritten v)) (filed-alike (asWritten (a .0)) f) r p q;
+  refusal-before = λ κs a x e p f. refusal-before (a .0) f p;
   imbalance-before = λ κs a x e p f h. imbalance-before (flat-plain f) (a .1 .0) p h;
   moment-before = λ κs a x e p f h. moment-before (flat-plain f) (a .1 .0) p h;
   depths-before = λ κs a x e p f h. list-before (flat-plain f) (a .1 .0 .now) x (list-is (a .0) (a .1 .0 .now) (p .0) (p .1) h);
   shear-before = λ κs a x e p f h. shear-before (flat-plain f) p h;
   level-refusal = λ κs a x e p f κ b y g q r. alike sectionRefusal (level-plain f .right) r p q;
+  level-law-of = λ κs a x e p f κ b y g q r. alike lawAnswer (law-alike (level-plain f)) r p q;
+  level-draw = λ κs a x e p f κ b y g q r d. alike-at drawnAnswer (draw-alike (level-plain f) (a .1 .0)) r d p q;
   level-imbalance = λ κs a x e p f κ b y g q r d. alike-at imbalanceAnswer (imbalance-alike (level-plain f) (a .1 .0)) r d p q;
   level-moment = λ κs a x e p f κ b y g q r d. alike-at momentAnswer (moment-alike (level-plain f) (a .1 .0)) r d p q;
   level-depths = λ κs a x e p f κ b y g q r d. lists-alike (level-plain f) r d p q;
   level-shear = λ κs a x e p f κ b y g q r. alike shearAnswer (shear-alike (level-plain f)) r p q;
+  fw-draw = λ κs a x e p κ b y g q two d. face-draw two d p q;
   fw-imbalance = λ κs a x e p κ b y g q two d. face-imbalance two d p q;
   fw-moment = λ κs a x e p κ b y g q two d. face-moment two d p q;
   fw-depths = λ κs a x e p κ b y g q two d. face-lists two d p q;

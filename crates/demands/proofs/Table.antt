@@ -74,6 +74,14 @@ first-other k [] t f = f
 first-other k (l ∷ ls) t (inl f) = absurd (other k l ls t .0 (f .1))
 first-other k (l ∷ ls) t (inr f) = first-other k ls (other k l ls t .1) (f .1)
 
+-- a line that does not hold may be left out
+pub without-line : (before ls : List Line) (l : Line) (k : ℕ) → l .asks → First (before ++ l ∷ ls) k → First (before ++ ls) k
+unfolding First
+without-line [] ls l k a (inl f) = absurd (f .0 a)
+without-line [] ls l k a (inr f) = f .1
+without-line (b ∷ bs) ls l k a (inl f) = inl f
+without-line (b ∷ bs) ls l k a (inr f) = inr (f .0, without-line bs ls l k a (f .1))
+
 -- ---- lines after lines, none of which is numbered 0
 pub then-first : (ls ms : List Line) (n m : ℕ) → lacks 0 ls ≡ true → First ls n → First ms m → First (ls ++ ms) (firstOf n m)
 unfolding First

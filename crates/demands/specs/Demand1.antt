@@ -62,7 +62,7 @@ pub record Demand1 : Type 0 where
   -- a section's record: 12 where it counts more than 8 layers
   pub filed : Every.filed (λ s x. Refuses (filedLines s) (x .refusal) ((x .len ≡ 0) × (x .bytes ≡ replicate 60 0)))
   pub record-of : Every.record-of (λ s x. Refuses (filedLines s) (x .refusal) ((x .len ≡ 0) × (x .bytes ≡ replicate 60 0)))
-  -- a book that is written: 6 to 13 of the first record that is refused, then 19; a layer added to a record: 6, 12, then 19
+  -- a book that is written: 6 to 13 with 20 of the first record that is refused, then 19; a layer added to a record: 6, 12, then 19
   pub write-book : Every.write-book (λ records before x after. RefusesBytes (writeLines records (length before)) before x after)
   pub add-layer : Every.add-layer (λ part depth area before x after. RefusesBytes (loneLines part ++ addLines (sectionIn part) (record { depth = depth; area = area }) (length before)) before x after)
   -- a class: 17

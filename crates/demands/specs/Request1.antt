@@ -17,7 +17,7 @@ use Rattle.demands.specs.Table.{First, loneLines, sectionLines}
 abbrev pub Counted : List ℕ → Written → List ℕ → List ℕ → BookAnswer → Type 0
 Counted records x after bytes y = bytes ≡ take (x .len) after → (y .refusal ≡ 0) × (y .count ≡ countIn records)
 
--- a record passes 6 to 13, and without stirrups it has spacing 0
+-- a record passes 6 to 13 with 20, and without stirrups it has spacing 0
 pub record Passes (part : List ℕ) : Type 0 where
   pub lines : First (loneLines part ++ sectionLines (sectionIn part)) 0
   pub idle : sectionIn part .asw ≡ 0 → sectionIn part .spacing ≡ 0

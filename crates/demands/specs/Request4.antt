@@ -9,6 +9,7 @@ use Rattle.arith.specs.Sums.{sumZ}
 use Rattle.arith.specs.Floor.{floorDiv}
 use Rattle.section.specs.declared.Section.{Section}
 use Rattle.section.specs.Section.{noLayer}
+use Rattle.section.specs.Accepted.{ConcreteIn, SizesIn, SteelIn, FibresIn, LoadIn, BarsIn, StirrupsIn}
 use Rattle.section.specs.Has.{concreteArea, steelArea, loadOf, lastDepth}
 use Rattle.law.specs.Law.{lawOf}
 use Rattle.law.specs.Stress.{rounded}
@@ -20,6 +21,8 @@ use Rattle.record.specs.Record.{sectionIn}
 use Rattle.record.specs.Filed.{filed}
 use Rattle.record.specs.Alone.{StandsAlone}
 use Rattle.demands.specs.Every as Every
+use Rattle.demands.specs.Table.{Line, _unless_}
+use Rattle.demands.specs.Demand1.{ByTable}
 
 -- ---- the same section without a flange
 abbrev pub rectangle : Section → Section
@@ -87,6 +90,18 @@ plainShear s =
     let fibres = 12 * s .feq3 / 100 * max 1000 (1600 - d) / 1000 in
     min ((concrete + fibres) * bd + stirrups (s .asw) d (lawOf s .fyd) (s .spacing)) (struts (s .fck) bd)
 
+-- and its refusals, without 20
+abbrev pub plainLines : Section → List Line
+plainLines s =
+    (7 unless ConcreteIn s)
+    ∷ (8 unless SizesIn s)
+    ∷ (9 unless SteelIn s)
+    ∷ (10 unless FibresIn s)
+    ∷ (11 unless LoadIn s)
+    ∷ (12 unless BarsIn s)
+    ∷ (13 unless StirrupsIn s)
+    ∷ []
+
 abbrev pub ListBefore : Section → List ℤ → Listing → List ℤ → Type 0
 ListBefore s before x after = (x .count ≡ length (plainList s)) × (after ≡ written (plainList s) before)
 
@@ -136,7 +151,8 @@ pub record Request4 : Type 0 where
   pub shear : Alike Every.shear Flat
   pub filed : Alike Every.filed Flat
   pub record-of : Alike Every.record-of Flat
-  -- and the answers are document 01's, by the C face too
+  -- and the answers are document 01's: the refusal, and where nothing is refused imbalance, moment, list and shear, by the C face too
+  pub refusal-before : Every.section-refusal (λ s x. Flat s → ByTable (plainLines s) x)
   pub imbalance-before : Every.imbalance (λ s d x. Flat s → x .refusal ≡ 0 → x .amount ≡ plainImbalance s d)
   pub moment-before : Every.moment (λ s d x. Flat s → x .refusal ≡ 0 → x .amount ≡ plainMoment s d)
   pub depths-before : Every.depths (λ s before x after. Flat s → x .refusal ≡ 0 → ListBefore s before x after)
@@ -147,11 +163,14 @@ pub record Request4 : Type 0 where
   pub fw-shear-before : Every.fw-shear (λ r x. Flat (sectionIn r) → x .refusal ≡ 0 → x .amount ≡ pos (plainShear (sectionIn r)))
   -- bf = b: a rib answers as the rectangle does
   pub level-refusal : Alike Every.section-refusal Level
+  pub level-law-of : Alike Every.law-of Level
+  pub level-draw : AlikeAt Every.draw Level
   pub level-imbalance : AlikeAt Every.imbalance Level
   pub level-moment : AlikeAt Every.moment Level
   pub level-depths : AlikeList Level
   pub level-shear : Alike Every.shear Level
   -- and by the C face
+  pub fw-draw : FaceAlikeAt Every.fw-draw Level
   pub fw-imbalance : FaceAlikeAt Every.fw-imbalance Level
   pub fw-moment : FaceAlikeAt Every.fw-moment Level
   pub fw-depths :

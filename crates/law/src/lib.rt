@@ -131,7 +131,7 @@ fn stretched_at(l: Law, p: u64, q: u64) -> u64
 }
 
 impl Law {
-    // The law of a section; or 7 to 13 with 20 and zeros.
+    // The law of a section; or 7 to 13 with 20, and zeros.
     pub fn of(section: Section) -> LawAnswer
         ensures { λ r. ⌜ r ≡ lawAnswer section ⌝ }
     {

@@ -53,7 +53,7 @@ pub extern "C" fn fw_class(fr1: u16, fr3: u16) -> ClassAnswer
     class::class(fr1, fr3)
 }
 
-// The point of a record's law at a whole strain; or 6, 7 to 13 with 20 or 18, and a point of plus zeros.
+// The point of a record's law at a whole strain; or 6, 7 to 13 with 20, or 18, and a point of plus zeros.
 #[no_mangle]
 pub extern "C" fn fw_draw(part: &[u8], strain: i32) -> Drawn
     ensures { λ r. ⌜ r ≡ drawnOf (now (part .entry)) strain ⌝ }
@@ -65,7 +65,7 @@ pub extern "C" fn fw_draw(part: &[u8], strain: i32) -> Drawn
     drawn::draw(answer.section, strain)
 }
 
-// The imbalance of a record's section with the neutral axis at depth x, in mN; or 6, 7 to 13 with 20 or 18, and zero.
+// The imbalance of a record's section with the neutral axis at depth x, in mN; or 6, 7 to 13 with 20, or 18, and zero.
 #[no_mangle]
 pub extern "C" fn fw_imbalance(part: &[u8], x: u32) -> Amount
     ensures { λ r. ⌜ r ≡ imbalanceOf (now (part .entry)) x ⌝ }
@@ -101,7 +101,7 @@ pub extern "C" fn fw_depths(part: &[u8], row: &mut [i64]) -> Listing
     depths::depths(answer.section, row)
 }
 
-// The shear that a record's section resists, in mN; or 6, 7 to 13 with 20 or 16, and zero.
+// The shear that a record's section resists, in mN; or 6, 7 to 13 with 20, or 16, and zero.
 #[no_mangle]
 pub extern "C" fn fw_shear(part: &[u8]) -> Amount
     ensures { λ r. ⌜ r ≡ shearOf (now (part .entry)) ⌝ }

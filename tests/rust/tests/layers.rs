@@ -214,7 +214,7 @@ const ERRORS: [Error; 16] = [
             right.then(|| section.with_layer(layer)).flatten()
         })
     }),
-    ("the section is tested 7 to 13", |case, out| {
+    ("the section is tested 7 to 13 with 20", |case, out| {
         with(case, out, |section, layer| match section.refusal() {
             None => section.with_layer(layer),
             Some(_) => None,
