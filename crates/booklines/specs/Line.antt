@@ -7,7 +7,6 @@ use lib.ListN.{length}
 use lib.Signed.{ltZ}
 use Rattle.arith.specs.Answers.{unlessRefused}
 use Rattle.section.specs.declared.Section.{Section}
-use Rattle.section.specs.declared.Amount.{Amount}
 use Rattle.section.specs.Amount.{noAmount}
 use Rattle.depths.specs.Depths.{Entry, entryOf, listed}
 use Rattle.depths.specs.Answers.{depthsRefusal}

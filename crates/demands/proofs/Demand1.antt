@@ -14,10 +14,8 @@ use Rattle.section.specs.Refusal.{sectionRefusal}
 use Rattle.section.specs.Added.{layerRefusal, addedAnswer}
 use Rattle.law.specs.declared.LawAnswer.{LawAnswer}
 use Rattle.law.specs.Law.{noLaw, lawAnswer}
-use Rattle.law.specs.Law as Law
 use Rattle.drawn.specs.declared.Drawn.{Drawn}
 use Rattle.drawn.specs.Drawn.{noPoint, drawnRefusal, drawnAnswer}
-use Rattle.drawn.specs.Drawn as Drawn
 use Rattle.section.specs.declared.Amount.{Amount}
 use Rattle.forces.specs.Answers.{gridRefusal, amountAnswer}
 use Rattle.depths.specs.declared.Listing.{Listing}
@@ -30,7 +28,6 @@ use Rattle.book.specs.declared.BookAnswer.{BookAnswer}
 use Rattle.book.specs.declared.RecordAnswer.{RecordAnswer}
 use Rattle.record.specs.declared.SectionAnswer.{SectionAnswer}
 use Rattle.record.specs.Record.{noSection, recordRefusal, sectionIn, sectionAnswer}
-use Rattle.record.specs.Record as Record
 use Rattle.record.specs.declared.RecordBytes.{RecordBytes}
 use Rattle.record.specs.Filed.{filedRefusal, filedAnswer, asWritten}
 use Rattle.book.specs.Book.{bookRefusal, bookAnswer, askedRefusal, recordAnswer, recordOf}
@@ -39,9 +36,8 @@ use Rattle.writer.specs.declared.Written.{Written}
 use Rattle.writer.specs.Written.{unwritten, writeRefusal, writeAnswer, bookAfter, addRefusal, addAnswer, recordAfter}
 use Rattle.class.specs.declared.ClassAnswer.{ClassAnswer}
 use Rattle.class.specs.Class.{classRefusal, classAnswer}
-use Rattle.class.specs.Class as Class
 use Rattle.panel.specs.Face.{drawnOf, imbalanceOf, momentOf, listOf, rowOf, shearOf}
-use Rattle.demands.specs.Table.{Line, First, bookLines, askedLines, loneLines, sectionLines, layerLines, filedLines, writeLines, addLines, depthsLines, shearLines, classLines, strainLines, gridLines}
+use Rattle.demands.specs.Table.{First, bookLines, askedLines, loneLines, sectionLines, layerLines, filedLines, writeLines, addLines, depthsLines, shearLines, classLines, strainLines, gridLines}
 use Rattle.demands.specs.Demand1.{Refuses, RefusesList, RefusesBytes, Demand1}
 use Rattle.demands.proofs.Free.{free}
 use Rattle.demands.proofs.Shapes.{sections, laws, points, amounts, listings, books, places, records, filings, writings, classes, alone, of-record}

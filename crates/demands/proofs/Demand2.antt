@@ -21,14 +21,12 @@ use Rattle.section.proofs.Inserted.{layers-added, added-right}
 use Rattle.law.specs.declared.Law.{Law}
 use Rattle.law.specs.declared.LawAnswer.{LawAnswer}
 use Rattle.law.specs.Law.{lawOf, lawAnswer}
-use Rattle.law.specs.Law as Law
 use Rattle.law.specs.Stress.{Stress, size}
 use Rattle.law.specs.Sizes.{sizeIn}
 use Rattle.law.proofs.Sizes.{small-law}
 use Rattle.law.proofs.Answers as LawAnswers
 use Rattle.drawn.specs.declared.Drawn.{Drawn}
 use Rattle.drawn.specs.Drawn.{pointAt, drawnRefusal, drawn, drawnAnswer}
-use Rattle.drawn.specs.Drawn as Drawn
 use Rattle.drawn.proofs.Within.{point-near}
 use Rattle.strips.specs.declared.Axis.{Axis}
 use Rattle.strips.specs.declared.Range.{Range}
@@ -48,12 +46,11 @@ use Rattle.book.specs.declared.BookAnswer.{BookAnswer}
 use Rattle.book.specs.declared.RecordAnswer.{RecordAnswer}
 use Rattle.record.specs.declared.SectionAnswer.{SectionAnswer}
 use Rattle.record.specs.declared.RecordBytes.{RecordBytes}
-use Rattle.record.specs.Record.{Bytes, recordSize, recordRefusal, sectionIn, sectionAnswer}
+use Rattle.record.specs.Record.{recordSize, recordRefusal, sectionIn, sectionAnswer}
 use Rattle.record.specs.Filed.{filed, asWritten, asRead, filedRefusal, filedAnswer}
 use Rattle.record.proofs.Alone.{record-stands}
 use Rattle.record.proofs.Answers.{number-is, section-there}
 use Rattle.record.proofs.Inverse.{filed-stands, section-filed, filed-front}
-use Rattle.record.specs.Record as Record
 use Rattle.book.specs.Book.{countOf, bookRefusal, bookAnswer, askedRefusal, recordAnswer, recordOf}
 use Rattle.book.specs.Good.{Shows}
 use Rattle.book.proofs.Parts.{part-shows, place-inside, place-part}
@@ -63,7 +60,6 @@ use Rattle.writer.specs.Written.{bookIn, writeRefusal, writeAnswer, bookAfter, 
 use Rattle.writer.proofs.Layers.{layer-length, layer-reads}
 use Rattle.class.specs.declared.ClassAnswer.{ClassAnswer}
 use Rattle.class.specs.Class.{classRefusal, classAnswer}
-use Rattle.class.specs.Class as Class
 use Rattle.panel.specs.Face.{drawnOf, imbalanceOf, momentOf, listOf, rowOf, shearOf}
 use Rattle.demands.specs.Table.{First, askedLines}
 use Rattle.demands.specs.Demand2.{Between, LayerAdded, ZeroPast, FlatIdle, ClassIs, PointIs, ListIs, PlaceIs, ReadsAs, Held, LayerPut, Demand2}

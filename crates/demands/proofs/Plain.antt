@@ -15,23 +15,21 @@ use Rattle.arith.specs.Floor.{floorDiv}
 use Rattle.arith.proofs.Tests.{less-or-not}
 use Rattle.arith.proofs.Sums.{sum-same, sum-alike}
 use Rattle.section.specs.declared.Section.{Section}
-use Rattle.section.specs.declared.Amount.{Amount}
+use Rattle.section.specs.declared.Layer.{Layer}
+use Rattle.section.specs.declared.Added.{Added}
 use Rattle.section.specs.Section.{layersRight}
 use Rattle.section.specs.Refusal.{line, firstOf, within, inTable, flangeRight, midRight, sectionRefusal}
 use Rattle.section.specs.Has.{widthAt, concreteArea, steelArea, steelMoment, loadOf}
-use Rattle.section.specs.declared.Layer.{Layer}
-use Rattle.section.specs.declared.Added.{Added}
 use Rattle.section.specs.Added.{layerRefusal, withLayer, addedAnswer}
 use Rattle.section.specs.Amount.{answered, noAmount}
 use Rattle.section.specs.Accepted.{SizesIn, FlangeIn}
 use Rattle.section.proofs.Accepted.{sizes-are, flange-is}
 use Rattle.section.proofs.Widths.{web-width, flange-width}
-use Rattle.law.specs.declared.Law.{Law}
 use Rattle.law.specs.Law.{limitDepth, effectiveDepth, lawOf, lawAnswer}
 use Rattle.law.specs.Law as Law
+use Rattle.law.specs.Stress.{rounded}
 use Rattle.drawn.specs.Drawn.{pointAt, inDrawnRange, drawnRefusal, drawn, drawnAnswer}
 use Rattle.drawn.specs.Drawn as Drawn
-use Rattle.law.specs.Stress.{rounded}
 use Rattle.forces.specs.Forces.{stripStress, lever, stripForce, barForce, stripMoment, barMoment, forces, moments, imbalance, moment}
 use Rattle.forces.specs.Answers.{gridRefusal, amountAnswer, imbalanceAnswer, momentAnswer}
 use Rattle.depths.specs.Depths.{kindOf, kindAt, listTo, listed, written}
@@ -39,7 +37,7 @@ use Rattle.depths.specs.Answers.{depthsRefusal, listRefusal, unlisted, listAnsw
 use Rattle.shear.specs.Shear.{kOf, cOf, atLeastZero, axialShare, concreteShare, kfOf, fibreShare, stirrups, struts, resistanceUnder, resistance, shearRefusal, shearAnswer}
 use Rattle.shear.proofs.Flange.{kf-without, kf-level}
 use Rattle.record.specs.Record.{recordSize}
-use Rattle.record.specs.Filed.{filed, inPlaces, unfiled, filedRefusal, filedAnswer}
+use Rattle.record.specs.Filed.{filed, but, inPlaces, unfiled, filedRefusal, filedAnswer}
 use Rattle.record.proofs.Inverse.{flat-filed}
 use Rattle.demands.specs.Request4.{rectangle, Flat, Level, plainImbalance, plainMoment, plainList, plainShear}
 
@@ -162,21 +160,9 @@ module _ {s : Section} (p : Plain s) where
 -- ---- a section that is filed, and one with a layer added
 module _ (s : Section) (e : Flat s) where
   as-filed : s .count ≤ 8 → filed s ≡ filed (rectangle s)
-  as-filed few = sym (flat-filed s 0 e few) ∙ (λ j. filed (record {
-    b = s .b;
-    h = s .h;
-    hf = e j;
-    bf = 0;
-    fck = s .fck;
-    fyk = s .fyk;
-    feq2 = s .feq2;
-    feq3 = s .feq3;
-    load = s .load;
-    asw = s .asw;
-    spacing = s .spacing;
-    count = s .count;
-    layers = s .layers;
-  }))
+  as-filed few =
+      let bare : filed (but s 0 (s .spacing) (s .layers)) ≡ filed (rectangle s) = rw e in
+      sym (flat-filed s 0 e few) ∙ bare
 
   pub filed-alike : filedAnswer s ≡ filedAnswer (rectangle s)
   unfolding filedAnswer

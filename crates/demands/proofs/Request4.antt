@@ -1,8 +1,9 @@
 -- Document 02 [4]: what it promises, by what each contract tells. Assumes nothing.
-use Prim.Native.Nat.{ℕ, _-_}
+use Prim.Native.Nat.{ℕ}
 use mathlib.Core.Path.{_≡_, refl, sym, ap, _∙_}
 use mathlib.Core.Bool.{cond}
 use mathlib.Core.List.{List, [], _∷_}
+use native.Mathlib.Omega.{arith}
 use lib.Dec.{eqb}
 use lib.IntN.{ℤ, pos}
 use lib.ListN.{length}
@@ -10,16 +11,16 @@ use Rattle.arith.specs.Joined.{joined}
 use Rattle.arith.specs.Sums.{sumN}
 use Rattle.section.specs.declared.Section.{Section}
 use Rattle.section.specs.declared.Amount.{Amount}
+use Rattle.section.specs.declared.Steel.{Steel}
 use Rattle.section.specs.Refusal.{sectionRefusal}
 use Rattle.section.specs.Has.{concreteArea, steelArea, steelMoment, lastDepth}
-use Rattle.section.specs.declared.Steel.{Steel}
 use Rattle.section.specs.Added.{addedAnswer}
+use Rattle.section.specs.Accepted.{ConcreteIn, SizesIn, FlangeIn}
 use Rattle.law.specs.Law.{effectiveDepth, lawBy, lawOf, lawAnswer}
-use Rattle.law.specs.Law as Law
-use Rattle.drawn.specs.Drawn.{drawn, drawnAnswer}
-use Rattle.drawn.specs.Drawn as Drawn
-use Rattle.forces.specs.Forces.{imbalance, moment}
+use Rattle.drawn.specs.declared.Drawn.{Drawn}
+use Rattle.drawn.specs.Drawn.{drawnAnswer}
 use Rattle.forces.specs.Answers.{imbalanceAnswer, momentAnswer}
+use Rattle.forces.proofs.Answers.{amount-is}
 use Rattle.depths.specs.declared.Listing.{Listing}
 use Rattle.depths.specs.Depths.{written}
 use Rattle.depths.specs.Answers.{listAnswer, rowAfter}
@@ -28,18 +29,14 @@ use Rattle.record.specs.Record.{flangeSize, recordRefusal, sectionIn}
 use Rattle.record.specs.Alone.{StandsAlone}
 use Rattle.record.specs.Filed.{unsigned32, placesOf, filed, asWritten, filedAnswer}
 use Rattle.record.proofs.Alone.{record-stands}
-use Rattle.forces.proofs.Answers.{amount-is}
 use Rattle.panel.specs.Face.{drawnOf, imbalanceOf, momentOf, listOf, rowOf, shearOf}
+use Rattle.demands.specs.Table.{_unless_}
+use Rattle.demands.specs.Demand1.{ByTable}
+use Rattle.demands.specs.Demand2.{ListIs}
+use Rattle.demands.specs.Request4.{plainLines, Flat, rectangle, Level, Two, plainImbalance, plainMoment, plainShear, ListBefore, rib, ribRecord, Request4}
 use Rattle.demands.proofs.Demand2.{list-is, list-of, shear-is}
 use Rattle.demands.proofs.Shapes.{amounts, grants}
 use Rattle.demands.proofs.Table.{exactly, without-line, section-first}
-use Rattle.demands.specs.Table.{_unless_}
-use Rattle.demands.specs.Demand1.{ByTable}
-use Rattle.section.specs.Accepted.{ConcreteIn, SizesIn, FlangeIn}
-use Rattle.drawn.specs.declared.Drawn.{Drawn}
-use native.Mathlib.Omega.{arith}
-use Rattle.demands.specs.Demand2.{ListIs}
-use Rattle.demands.specs.Request4.{plainLines, Flat, rectangle, Level, Two, plainImbalance, plainMoment, plainShear, ListBefore, rib, ribRecord, Request4}
 use Rattle.demands.proofs.Plain.{Plain, flat-plain, level-plain, imbalance-plain, moment-plain, list-plain, shear-plain}
 use Rattle.demands.proofs.Plain.{law-alike, draw-alike, imbalance-alike, moment-alike, shear-alike, list-alike, row-alike, filed-alike, added-alike}
 

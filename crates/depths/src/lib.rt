@@ -72,7 +72,7 @@ fn run_from(section: Section, from: u16) -> Run
 }
 
 // Where the force of all strips lies, run after run: one for a rectangle, two for a rib. With one call for both, in a loop, the compiler puts the
-// bounds in its place, and a rectangle's list takes three quarters of the time, a rib's two thirds.
+// bounds in its place, and a list takes three quarters of the time.
 fn strips_force(section: Section, law: Law, axis: Axis) -> Range
     requires { ⌜ (Accepted section) × (law ≡ lawOf section) × (scaleOf axis ≡ strainScale (lawOf section) (axis .x)) ⌝ }
     ensures { λ r. ⌜ Lies (sumZ (section .h) (stripForce (lawOf section) section (axis .x))) (mostRun * 2) r ⌝ }

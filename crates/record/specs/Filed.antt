@@ -1,5 +1,5 @@
 -- Document 01, 'The section book': a section's record, byte by byte. What it reads as is in Record; that each is the other's inverse is proved.
-use Prim.Native.Nat.{ℕ, _+_, _-_, _/_, _%_}
+use Prim.Native.Nat.{ℕ, _-_, _/_, _%_}
 use mathlib.Core.Bool.{cond}
 use mathlib.Core.List.{List, [], _∷_, _++_}
 use lib.Dec.{ltb, leb, eqb}

@@ -7,7 +7,7 @@ use native.Mathlib.Omega.{arith}
 use lib.ListN.{length, getD, set, replicate}
 use lib.Seq.{sets-eq}
 use borrow.Author.Needs.{needs}
-use Rattle.arith.specs.Joined.{joined, over}
+use Rattle.arith.specs.Joined.{joined}
 use Rattle.arith.proofs.Joined.{over-length, over-part, joined-next, joined-length}
 use Rattle.record.specs.Filed.{numberBytes, inPlaces}
 use Rattle.record.proofs.in_bytes.Statement.{statement}

@@ -1,5 +1,5 @@
 -- `fibre_share`: t, then its product with the size factor and kf. Assumes nothing.
-use Prim.Native.Nat.{_*_, _-_, _/_, _≤_, max}
+use Prim.Native.Nat.{_*_, _/_, _≤_}
 use mathlib.Core.Path.{ap}
 use native.Mathlib.Nat.{mul-le-mul, max-le}
 use native.Mathlib.Omega.{arith}

@@ -6,7 +6,7 @@ use native.Mathlib.Omega.{arith}
 use borrow.Author.Needs.{needs}
 use Rattle.law.specs.Ranges.{LawIn}
 use Rattle.law.proofs.Ranges.{law-in}
-use Rattle.shear.specs.Shear.{fibreShare, stirrups, struts, resistanceUnder}
+use Rattle.shear.specs.Shear.{fibreShare, resistanceUnder}
 use Rattle.shear.specs.Code.{mostConcrete}
 use Rattle.shear.proofs.Ranges.{AreaIn, times-width}
 use Rattle.shear.proofs.resistance.Statement.{statement}
