@@ -1,5 +1,6 @@
 -- `area`: flange and web. Assumes nothing.
-use mathlib.Core.Path.{refl}
+use Prim.Native.Nat.{_*_, _≤_, _<_}
+use mathlib.Core.Path.{sym, subst}
 use native.Mathlib.Omega.{arith}
 use borrow.Author.Needs.{needs}
 use Rattle.section.proofs.Widths.{flange-inside, area-is, area-some, area-most}
@@ -9,7 +10,8 @@ use Rattle.shear.proofs.area.Tie as tie
 returns : tie.Need-returns
 returns c =
     let a = c .before .before .before .before .pre in
-    rw (← (area-is a)) (refl, area-some a, area-most a)
+    let is = area-is a in
+    (sym is, subst (λ n. 0 < n) is (area-some a), subst (λ n. n ≤ 2000 * 1000) is (area-most a))
 
 pub area-spec : {M : Type 1} → statement M
 area-spec =
