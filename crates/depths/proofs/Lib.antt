@@ -1,8 +1,9 @@
 pub mod Within
 pub mod Fits
+pub mod Sided
+pub mod Next
 pub mod Kept
 pub mod Listed
-pub mod Sided
 pub mod Rows
 pub mod Answers
 pub mod Theorems

@@ -1,9 +1,9 @@
 -- The kind that a depth has by the signs of its imbalance and the next one. Assumes nothing.
 use Prim.Native.Nat.{ℕ, zero, suc, _+_, _≤_, _<_}
 use mathlib.Core.Path.{_≡_, refl}
-use mathlib.Core.Bool.{Bool, true, false, _&&_, _||_, or-true, false≢true}
+use mathlib.Core.Bool.{Bool, true, false, cond, _&&_, _||_, or-true, false≢true}
 use native.Mathlib.Omega.{arith}
-use lib.Dec.{eqb}
+use lib.Dec.{ltb, eqb}
 use lib.IntN.{ℤ, pos, negsuc, natAbs}
 use lib.Signed.{ltZ, _<ℤ_, _≤ℤ_}
 use borrow.Author.Tests.{lt-ltb, le-ltb, ne-eqb}
@@ -81,3 +81,12 @@ module _ (s : Section) (x : ℕ) where
     pub kind-last : lastDepth s ≤ x → kindAt s x ≡ 0
     unfolding kindAt
     kind-last h = rw (other some, le-ltb x (lastDepth s) h)
+
+  pub kind-most : kindAt s x ≤ 2
+  unfolding kindAt
+  kind-most = pick (eqb (natAbs (imbalance s x)) 0) (ltb x (lastDepth s) && opposite (imbalance s x) (imbalance s (x + 1)))
+    where
+      pick : (t u : Bool) → cond t 1 (cond u 2 0) ≤ 2
+      pick true u = omega arith
+      pick false true = omega arith
+      pick false false = omega arith

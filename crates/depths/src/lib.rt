@@ -11,8 +11,8 @@ ghost use Rattle.section.specs.Has.{widthAt, lastDepth};
 ghost use Rattle.law.specs.Law.{lawOf};
 ghost use Rattle.strips.specs.Strips.{scaleOf, stripAt};
 ghost use Rattle.forces.specs.Forces.{strainScale, stripForce, barForce, imbalance, moment};
-ghost use Rattle.depths.specs.Depths.{kindAt, listed, written};
-ghost use Rattle.depths.specs.Code.{mostRun, mostBars, Lies, runEnd, signOf, Kept};
+ghost use Rattle.depths.specs.Depths.{listed, written};
+ghost use Rattle.depths.specs.Code.{mostRun, mostBars, Lies, runEnd, signOf, signLooked, openFrom, Next, Kept};
 ghost use Rattle.depths.specs.Answers.{unlisted, listAnswer, rowAfter};
 use law::Law;
 use section::Section;
@@ -29,6 +29,14 @@ pub struct Listing {
 struct Run {
     width: u16,
     end: u16,
+}
+
+// A listed depth and its kind, how far was looked for it, and the sign there; past the grid, where there is none.
+struct Found {
+    depth: u32,
+    looked: u32,
+    kind: u8,
+    sign: u8,
 }
 
 impl Listing {
@@ -135,54 +143,75 @@ fn sign_at(section: Section, law: Law, x: u16) -> u8
     sign(forces::imbalance(section, x as u32).amount)
 }
 
+// The next listed depth after those that the signs show up to a depth that was looked at, given the sign there; 0 and 0 before the first. It looks at
+// no depth past the one that decides: x itself of kind 1, x + 1 of kind 2. Of two signs 1 and 2 are opposite, and no others make 3.
+fn next_listed(section: Section, law: Law, looked: u32, sign: u8) -> Found
+    requires { ⌜ (Accepted section) × (law ≡ lawOf section) × (looked ≤ lastDepth section) × (sign ≡ signLooked section looked) ⌝ }
+    ensures { λ r. ⌜ Next section (openFrom looked sign) r ⌝ }
+{
+    let last = section.last_depth();
+    let mut before = sign;
+    for i in looked..last {
+        let here = sign_at(section, law, (i + 1) as u16);
+        if here == 0 {
+            return Found {
+                depth: i + 1,
+                looked: i + 1,
+                kind: 1,
+                sign: 0,
+            };
+        }
+        if before + here == 3 {
+            return Found {
+                depth: i,
+                looked: i + 1,
+                kind: 2,
+                sign: here,
+            };
+        }
+        before = here;
+    }
+    Found {
+        depth: last + 1,
+        looked: last,
+        kind: 0,
+        sign: before,
+    }
+}
+
 // In a function of its own, so that no other proof carries a thousand zeros.
-fn no_signs() -> [u8; 1000]
+fn no_kinds() -> [u8; 1000]
     ensures { λ r. ⌜ r ≡ replicate 1000 0 ⌝ }
 {
     let kept: [u8; 1000] = [0; 1000];
     kept
 }
 
-// The sign at each depth, that of depth 1 first. Each is found once.
-fn signs(section: Section, law: Law) -> [u8; 1000]
+// The kind of each depth, that of depth 1 first, or 0.
+fn kinds(section: Section, law: Law) -> [u8; 1000]
     requires { ⌜ (Accepted section) × (law ≡ lawOf section) ⌝ }
-    ensures { λ r. ⌜ Kept section (lastDepth section) r ⌝ }
+    ensures { λ r. ⌜ Kept section (lastDepth section + 1) r ⌝ }
 {
-    let last = section.last_depth() as usize;
-    let mut kept = no_signs();
-    for i in 0..last {
-        kept[i] = sign_at(section, law, i as u16 + 1);
+    let last = section.last_depth();
+    let mut kept = no_kinds();
+    let mut found = next_listed(section, law, 0, 0);
+    while found.depth <= last {
+        let at = found.depth as usize - 1;
+        kept[at] = found.kind;
+        found = next_listed(section, law, found.looked, found.sign);
     }
     kept
 }
 
-// The kind of depth i + 1, or 0. Of two signs 1 and 2 are opposite, and no others make 3.
-fn kind_at(section: Section, kept: &[u8; 1000], i: usize) -> u32
-    requires { ⌜ (Accepted section) × (Kept section (lastDepth section) (now kept)) × (i < lastDepth section) ⌝ }
-    ensures { λ r. ⌜ (r ≡ kindAt section (i + 1)) × (r ≤ 2) ⌝ }
-{
-    let here = kept[i] as u32;
-    if here == 0 {
-        return 1;
-    }
-    let next = i + 1;
-    if next < section.last_depth() as usize {
-        if here + kept[next] as u32 == 3 {
-            return 2;
-        }
-    }
-    0
-}
-
 // How many depths are listed.
 fn listed_count(section: Section, kept: &[u8; 1000]) -> u32
-    requires { ⌜ (Accepted section) × (Kept section (lastDepth section) (now kept)) ⌝ }
+    requires { ⌜ (Accepted section) × (Kept section (lastDepth section + 1) (now kept)) ⌝ }
     ensures { λ r. ⌜ (r ≡ length (listed section)) × (r ≤ 1000) ⌝ }
 {
     let last = section.last_depth() as usize;
     let mut count: u32 = 0;
     for i in 0..last {
-        if kind_at(section, kept, i) != 0 {
+        if kept[i] != 0 {
             count = count + 1;
         }
     }
@@ -198,13 +227,13 @@ fn moment_at(section: Section, x: u32) -> i64
 
 // Writes the list into a row that holds it.
 fn write_list(section: Section, kept: &[u8; 1000], row: &mut [i64])
-    requires { ⌜ (Accepted section) × (Kept section (lastDepth section) (now kept)) × (3 * length (listed section) ≤ length (now row)) ⌝ }
+    requires { ⌜ (Accepted section) × (Kept section (lastDepth section + 1) (now kept)) × (3 * length (listed section) ≤ length (now row)) ⌝ }
     ensures { λ r. ⌜ now (row .exit) ≡ written (listed section) (now (row .entry)) ⌝ }
 {
     let last = section.last_depth() as usize;
     let mut at: usize = 0;
     for i in 0..last {
-        let kind = kind_at(section, kept, i);
+        let kind = kept[i];
         if kind != 0 {
             let x = i + 1;
             row[at] = x as i64;
@@ -223,7 +252,7 @@ pub fn depths(section: Section, row: &mut [i64]) -> Listing
     if answer.refusal != 0 {
         return Listing::refused(answer.refusal);
     }
-    let kept = signs(section, answer.law);
+    let kept = kinds(section, answer.law);
     let count = listed_count(section, &kept);
     if count == 0 {
         return Listing::refused(14);

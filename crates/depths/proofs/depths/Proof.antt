@@ -35,7 +35,7 @@ write-list-requires : tie.Need-write-list-requires
 write-list-requires c κs =
     let s = c .before .before .before .before .before .before .before in
     let n = c .before .before .before .before .listed-count in
-    (met s .0, c .before .before .before .before .before .before .signs .ensures, omega (arith, n .ensures .0, c .before .before .if3 .left))
+    (met s .0, c .before .before .before .before .before .before .kinds .ensures, omega (arith, n .ensures .0, c .before .before .if3 .left))
 
 returns-4 : tie.Need-returns-4
 returns-4 c =
@@ -53,7 +53,7 @@ depths-spec =
     (λ c κs. search needs)
     returns
     (λ c κs. met c)
-    (λ c κs. (met (c .before .before) .0, c .before .signs .ensures))
+    (λ c κs. (met (c .before .before) .0, c .before .kinds .ensures))
     (λ c κs. search needs)
     returns-2
     (λ c. search needs)

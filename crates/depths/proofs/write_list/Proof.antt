@@ -5,12 +5,14 @@ use mathlib.Core.List.{_++_}
 use mathlib.Core.Logic.{⊎-elim}
 use native.Mathlib.Omega.{arith}
 use lib.IntN.{pos}
-use lib.ListN.{length, drop, length-set}
+use lib.ListN.{length, getD, drop, length-set}
 use borrow.Author.Needs.{needs}
 use Rattle.arith.proofs.Machine.{read, read-pos}
 use Rattle.section.specs.Has.{lastDepth}
 use Rattle.forces.specs.Forces.{moment}
 use Rattle.depths.specs.Depths.{kindAt, listTo, words}
+use Rattle.depths.proofs.Sided.{kind-most}
+use Rattle.depths.proofs.Kept.{kept-there}
 use Rattle.depths.proofs.Listed.{list-skips, count-more, count-grows}
 use Rattle.depths.proofs.Rows.{entry-stored}
 use Rattle.depths.proofs.write_list.Statement.{statement}
@@ -27,15 +29,21 @@ loop-holds : tie.Need-loop-holds Inv-loop μ-loop
 unfolding listTo words
 loop-holds c = (omega arith, refl, refl, refl)
 
-abbrev start : tie.After-kind-at Inv-loop μ-loop → tie.Start Inv-loop μ-loop
+abbrev start : tie.After-kind Inv-loop μ-loop → tie.Start Inv-loop μ-loop
 start c = c .before .before .before .before
 
-some : (c : tie.Then1 Inv-loop μ-loop) → kindAt (start (c .before) .args .section) (c .before .before .before .loop .i + 1) ≡ 0 → ⊥
-some c e = c .if1 .taken (c .before .kind-at .ensures .0 ∙ e)
-
 -- the loop's end is the grid's
-grid : (c : tie.After-kind-at Inv-loop μ-loop) → c .before .before .loop .i + 1 ≤ lastDepth (start c .args .section)
+grid : (c : tie.After-kind Inv-loop μ-loop) → c .before .before .loop .i + 1 ≤ lastDepth (start c .args .section)
 grid c = omega (arith, c .before .before .before .last-depth .ensures)
+
+-- the kind that is kept is the depth's
+kind-is :
+    (c : tie.After-kind Inv-loop μ-loop)
+    → let i = c .before .before .loop .i in getD (start c .args .kept .now) i 0 ≡ kindAt (start c .args .section) (i + 1)
+kind-is c = kept-there _ (start c .args .kept .now) (start c .pre .1) _ (omega (arith, grid c))
+
+some : (c : tie.Then1 Inv-loop μ-loop) → kindAt (start (c .before) .args .section) (c .before .before .before .loop .i + 1) ≡ 0 → ⊥
+some c e = c .if1 .taken (kind-is (c .before) ∙ e)
 
 -- the whole list has a place in the row, so this entry has
 room : (c : tie.Then1 Inv-loop μ-loop)
@@ -54,7 +62,7 @@ loop-again c =
     let l = c .before .before .before .loop in
     let k = kindAt (a .section) in
     let m = moment (a .section) in
-    let is = c .before .kind-at .ensures in
+    let is = kind-is (c .before) in
     ⊎-elim
     (λ w.
     let then : tie.Then1 Inv-loop μ-loop = record { before = c .before; if1 = w .0 } in (
@@ -63,11 +71,11 @@ loop-again c =
       ap length (w .2) ∙ simp length-set (l .inv .2),
       w .2
           ∙ entry-stored k m (a .row .now) (l .row) (l .i) (l .at) _ _ _ (some then) (l .inv .1) (room then .0) (l .inv .3) (read-pos (l .i + 1) (omega (arith, room then .1)))
-          (read-pos (c .before .kind-at .result) (omega (arith, is .1)) ∙ ap pos (is .0)) (read (record { sfits = w .1 .ok }) ∙ w .1 .ensures)
+          (read-pos _ (omega (arith, is, kind-most (a .section) (l .i + 1))) ∙ ap pos is) (read (record { sfits = w .1 .ok }) ∙ w .1 .ensures)
           ∙ ap (λ n. words (listTo k m (l .i + 1)) ++ drop n (a .row .now)) (sym (w .3)),
     ))
     (λ w.
-    let same = list-skips k m (l .i) (sym (is .0) ∙ w .0 .left) in (
+    let same = list-skips k m (l .i) (sym is ∙ w .0 .left) in (
       omega arith,
       w .2 ∙ l .inv .1 ∙ ap (λ e. 3 * length e) (sym same),
       ap length (w .1) ∙ l .inv .2,
@@ -93,12 +101,12 @@ write-list-spec =
     (λ c κs. search needs)
     (λ c. search needs)
     loop-holds
-    (λ c κs. let s = c .before .before .before in (s .pre .0, s .pre .1, omega (arith, c .before .before .last-depth .ensures)))
+    (λ c. omega (arith, c .before .before .last-depth .ensures, c .before .before .before .pre .0 .sizes .1 .1))
     (λ c. record { fits = omega (arith, room c .1) })
     (λ c. record { sfits = omega (arith, room c .1) })
     (λ c. record { fits = omega (arith, room c .0) })
     (λ c. omega (arith, room c .0, c .before .before .before .loop .inv .2))
-    (λ c. record { sfits = omega (arith, c .before .kind-at .ensures .1) })
+    (λ c. record { sfits = omega (arith, kind-is (c .before), kind-most (start (c .before) .args .section) (c .before .before .before .loop .i + 1)) })
     (λ c. record { fits = omega (arith, room c .0) })
     (λ c. record { fits = omega (arith, room c .0) })
     (λ c. let f = room c .0 in let n = c .before .before .before .loop .inv .2 in simp length-set (omega arith))
