@@ -10,7 +10,7 @@ export BOOK RECORD PREFIX DESTDIR
 help:
 	@echo 'make test                  prove every crate, then test the library from C and from Rust, and these commands'
 	@echo 'make controls              prove the control of each must-fail edit that has one: the right program of its shape'
-	@echo 'make bench                 time the list of depths and the shear against plain C'
+	@echo 'make bench                 time the list of depths, the first depth and the shear against plain C'
 	@echo 'make run [BOOK=file]       print the lines of a book, the sample book if none is named'
 	@echo 'make sheet [BOOK=file] [RECORD=number]'
 	@echo '                           draw a record in target/sheet.svg, the first if none is named'

@@ -10,17 +10,7 @@
 
 #include "plain.h"
 
-/* A turn of plain C gives as many lists as have this many stresses: one list of a low section is too short to time. The
- * unit's gives MORE times as many, since it is over in so much less time. */
-enum { STRESSES = 2000000, MORE = 10, WORDS = 3 * HIGHEST };
-
-/* A section, how many times as fast as plain C its list should be, or 0 where that is only reported,
- * and what it has. */
-static const struct {
-    section s;
-    int to_reach;
-    const char *has;
-} timed[] = {
+static const timed_section timed[] = {
     {{.b = 1000, .h = 1000, .fck = 30, .fyk = 500, .feq2 = 3700, .feq3 = 4500}, 80, "no layers"},
     {{.b = 400, .h = 600, .fck = 30, .fyk = 500, .feq2 = 2000, .feq3 = 2000, .m = 1, .layers = {{540, 3216}}},
      40,

@@ -143,3 +143,21 @@ uint32_t plain_depths(const section *s, int64_t *row)
     }
     return count;
 }
+
+int plain_first(const section *s, int64_t *words)
+{
+    law l = law_of(s);
+    int64_t before = 0;
+    for (int x = 1; x <= s->h; x++) {
+        int64_t here = imbalance(s, &l, x);
+        int crossed = (before < 0 && here > 0) || (before > 0 && here < 0);
+        if (here == 0 || crossed) {
+            words[0] = crossed ? x - 1 : x;
+            words[1] = crossed ? 2 : 1;
+            words[2] = moment(s, &l, words[0]);
+            return 1;
+        }
+        before = here;
+    }
+    return 0;
+}

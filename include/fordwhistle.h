@@ -213,8 +213,24 @@ typedef struct {
  * listed depths, and count is then that number. On any refusal the whole row stays.
  * row is a pointer to as many words as said that may be read and written; none of them is part of the record. words is any number, 0 too,
  * and row may then be null: where there is a depth to list, that is refused 15 and so asks for the count alone. 3 h words hold every list
- * of a section of height h, so 3000 the list of any section. The call takes some 3 KB of stack, that of any other function less than 1. */
+ * of a section of height h, so 3000 the list of any section. The call takes some 3 KB of stack, fw_first some 2, any other function less than 1. */
 fw_listed fw_depths(const uint8_t *record, size_t len, int64_t *row, size_t words);
+
+/* The first depth of that list alone.
+ * depth: x, the shallowest at which the section balances.
+ * kind: its kind, 1 or 2.
+ * moment: the moment at x. */
+typedef struct {
+    uint32_t refusal, depth, kind;
+    int64_t moment;
+} fw_first_depth;
+
+/* The first listed depth of a record's section: the first three words that fw_depths writes, without a row. Refusal 6, then 7 to 13
+ * with 20, then 14, each exactly where fw_depths is refused by it; depth, kind and moment are then 0. It is never refused 15. Writes
+ * nothing.
+ * It looks at no depth past the one that decides, x of kind 1 and x + 1 of kind 2, and is meant for a screen that follows a knob. Whether
+ * the section balances deeper too, and with which moment, only fw_depths tells. */
+fw_first_depth fw_first(const uint8_t *record, size_t len);
 
 /* The shear resistance of a section with bars. d and fyd are as above. As is the area of the layers below mid-height, N is the axial load
  * in mN, 1000 times the record's, A is the area of the concrete, bf hf + b (h - hf), which is b h where hf is 0. Each quotient is rounded

@@ -1,5 +1,5 @@
-/* fw_imbalance, fw_moment and fw_depths as the panel's program calls them: document 01's figures, several depths, two layers below
- * mid-height, a flange, a zero at the last depth, rows too short, just long enough and longer, and each refusal. */
+/* fw_imbalance, fw_moment, fw_depths and fw_first as the panel's program calls them: the documents' figures, several depths, two layers
+ * below mid-height, a flange, a zero at the first depth and at the last, rows too short, just long enough and longer, and each refusal. */
 #include "fordwhistle.h"
 
 #include "check.h"
@@ -36,14 +36,33 @@ static int answers(section s, size_t words, uint32_t refusal, uint32_t count, co
     return answer.refusal == refusal && answer.count == count;
 }
 
-static int lists(section s, size_t words, const int64_t *list, uint32_t count)
+/* Whether the first depth is answered with this; the words are null where it is refused. */
+static int is_first(section s, uint32_t refusal, const int64_t *words)
 {
-    return answers(s, words, 0, count, list, 3 * (size_t)count);
+    static const int64_t none[3] = {0};
+    record r = record_of(s);
+    fw_first_depth first = fw_first(r.bytes, r.len);
+    if (words == NULL)
+        words = none;
+    return first.refusal == refusal && first.depth == words[0] && first.kind == words[1] && first.moment == words[2];
 }
 
-static int refuses_row(section s, size_t words, uint32_t refusal, uint32_t count)
+/* Whether it is the first three words of the list too. */
+static int lists(section s, size_t words, const int64_t *list, uint32_t count)
 {
-    return answers(s, words, refusal, count, NULL, 0);
+    return answers(s, words, 0, count, list, 3 * (size_t)count) && is_first(s, 0, list);
+}
+
+/* Whether the first depth is refused by the same number too, which is not 15. */
+static int refuses_list(section s, uint32_t refusal)
+{
+    return answers(s, 0, refusal, 0, NULL, 0) && answers(s, ROOM, refusal, 0, NULL, 0) && is_first(s, refusal, NULL);
+}
+
+/* Whether a row is too short for the list, and the first depth is answered all the same. */
+static int lacks_room(section s, size_t words, const int64_t *list, uint32_t count)
+{
+    return answers(s, words, 15, count, NULL, 0) && is_first(s, 0, list);
 }
 
 static int is(fw_amount answer, uint32_t refusal, int64_t amount)
@@ -68,7 +87,7 @@ static void the_figures(void)
     static const int64_t list[] = {14, 2, 14476473000};
     CHECK(gives(plate, 14, -4957000, 14476473000));
     CHECK(lists(plate, ROOM, list, 1));
-    CHECK(refuses_row(beam, ROOM, 14, 0));
+    CHECK(refuses_list(beam, 14));
 }
 
 static void every_depth_is_listed(void)
@@ -110,6 +129,14 @@ static void the_flange_has_its_own_width(void)
     CHECK(lists(with_flange(softening, 139, 600), ROOM, five, 5));
 }
 
+/* A plate that is pulled just so hard that its forces balance at depth 1: no depth comes before it. */
+static void the_first_depth_is_listed_as_a_zero(void)
+{
+    static const section pulled = {.b = 1000, .h = 58, .fck = 50, .fyk = 400, .load = -3378};
+    static const int64_t list[] = {1, 1, -175816000};
+    CHECK(lists(pulled, ROOM, list, 1));
+}
+
 /* The last depth has no next one: it is listed where its imbalance is zero, and not where that is 1 N less. */
 static void the_last_depth_is_listed_as_a_zero_only(void)
 {
@@ -121,13 +148,13 @@ static void the_last_depth_is_listed_as_a_zero_only(void)
     CHECK(lists(s, ROOM, before, 1));
     s.load = 1376185;
     CHECK(gives(s, 100, -1000, 23126626000));
-    CHECK(refuses_row(s, ROOM, 14, 0));
+    CHECK(refuses_list(s, 14));
 }
 
 static void a_row_has_its_length(void)
 {
-    CHECK(refuses_row(softening, 0, 15, 5));
-    CHECK(refuses_row(softening, 14, 15, 5));
+    CHECK(lacks_room(softening, 0, five, 5));
+    CHECK(lacks_room(softening, 14, five, 5));
     CHECK(lists(softening, 15, five, 5));
     CHECK(lists(softening, 16, five, 5));
 }
@@ -147,10 +174,10 @@ static void the_first_line_that_holds_refuses(void)
 {
     for (int i = 0; i < LINES; i++) {
         CHECK(refuses_depth(wrong_from(lines[i]), 0, lines[i]));
-        CHECK(refuses_row(wrong_from(lines[i]), 0, lines[i], 0));
+        CHECK(refuses_list(wrong_from(lines[i]), lines[i]));
     }
     CHECK(refuses_depth(wrong_from(18), 0, 18));
-    CHECK(refuses_row(wrong_from(14), 0, 14, 0));
+    CHECK(refuses_list(wrong_from(14), 14));
 }
 
 int main(void)
@@ -159,6 +186,7 @@ int main(void)
     every_depth_is_listed();
     the_strain_takes_the_deepest_layer_and_s1_the_centroid();
     the_flange_has_its_own_width();
+    the_first_depth_is_listed_as_a_zero();
     the_last_depth_is_listed_as_a_zero_only();
     a_row_has_its_length();
     depths_have_their_limits();

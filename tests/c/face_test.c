@@ -27,6 +27,11 @@ static int is_listed(fw_listed listed, uint32_t refusal, uint32_t count)
     return listed.refusal == refusal && listed.count == count;
 }
 
+static int is_first(fw_first_depth first, uint32_t refusal, uint32_t depth, uint32_t kind, int64_t moment)
+{
+    return first.refusal == refusal && first.depth == depth && first.kind == kind && first.moment == moment;
+}
+
 /* Whether a record to which a layer is added, lent, is refused so in this room, or becomes the longer one where the number is 0. The layer's
  * area is the number of its depth. */
 static int adds(const uint8_t *bytes, size_t len, uint16_t depth, size_t room, uint32_t refusal, const record *longer)
@@ -45,7 +50,8 @@ static int refuses(const uint8_t *bytes, size_t len, uint32_t refusal, size_t wo
     int zeros = is_drawn(fw_draw(bytes, len, 0), refusal, 0.0, 0.0) && is_drawn(fw_draw(bytes, len, INT32_MIN), refusal, 0.0, 0.0) &&
                 is_amount(fw_imbalance(bytes, len, 1), refusal, 0) && is_amount(fw_imbalance(bytes, len, 0), refusal, 0) &&
                 is_amount(fw_moment(bytes, len, 1), refusal, 0) && is_amount(fw_moment(bytes, len, 0), refusal, 0) &&
-                is_amount(fw_shear(bytes, len), refusal, 0) && is_listed(fw_depths(bytes, len, row, words), refusal, 0);
+                is_amount(fw_shear(bytes, len), refusal, 0) && is_first(fw_first(bytes, len), refusal, 0, 0, 0) &&
+                is_listed(fw_depths(bytes, len, row, words), refusal, 0);
     return kept(row, unwritten, words * sizeof *row) && zeros;
 }
 
@@ -130,7 +136,7 @@ static void a_refused_section_gives_zeros(void)
     }
 }
 
-/* What is refused 16 and 18 beside what is not, of the two records of the sample. */
+/* What is refused 14, 16 and 18 beside what is not, of the two records of the sample. */
 static void the_answers_of_a_record(void)
 {
     record first = record_of(plate), second = record_of(beam);
@@ -144,9 +150,11 @@ static void the_answers_of_a_record(void)
     CHECK(is_amount(fw_moment(copy, first.len, 14), 0, 14476473000));
     CHECK(is_amount(fw_moment(copy, first.len, 0), 18, 0));
     CHECK(is_amount(fw_moment(copy, first.len, 101), 18, 0));
+    CHECK(is_first(fw_first(copy, first.len), 0, 14, 2, 14476473000));
     CHECK(is_amount(fw_shear(copy, first.len), 16, 0));
     CHECK(kept(copy, first.bytes, first.len));
     copy = lent(edge, second.bytes, second.len);
+    CHECK(is_first(fw_first(copy, second.len), 14, 0, 0, 0));
     CHECK(is_amount(fw_shear(copy, second.len), 0, 1069200000));
     CHECK(kept(copy, second.bytes, second.len));
 }

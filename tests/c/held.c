@@ -7,6 +7,7 @@
  *   'i'  fw_imbalance: len and a record likewise; x, 32 bits; refusal, 32 bits; amount, 64 bits signed
  *   'e'  fw_imbalance at every depth from 1 to x: the same, with a refusal and an amount for each
  *   'm'  fw_moment: as 'i'
+ *   'f'  fw_first: len and a record likewise; refusal, depth, kind, 32 bits each; moment, 64 bits signed
  *   's'  fw_shear: as 'i' without x
  *   'l'  fw_depths: len and a record likewise; words, 16 bits; the row before the call and the row after it, 64 bits a word; refusal and
  *        count, 32 bits each
@@ -202,6 +203,24 @@ static int amount_at_held(const char *name, fw_amount (*function)(const uint8_t 
     return all;
 }
 
+static int first_held(void)
+{
+    size_t len = (size_t)number(2);
+    const uint8_t *record = lend(&record_lent, len);
+    uint32_t refusal = (uint32_t)number(4), depth = (uint32_t)number(4), kind = (uint32_t)number(4);
+    int64_t moment = (int64_t)number(8);
+    fw_first_depth first = fw_first(record, len);
+    if (first.refusal == refusal && first.depth == depth && first.kind == kind && first.moment == moment)
+        return 1;
+    if (told()) {
+        printf("fw_first(");
+        print_start(record, len);
+        printf(", %zu) gives %u, %u, %u, %" PRId64 " and not %u, %u, %u, %" PRId64 "\n", len, first.refusal, first.depth, first.kind,
+               first.moment, refusal, depth, kind, moment);
+    }
+    return 0;
+}
+
 static int shear_held(void)
 {
     size_t len = (size_t)number(2);
@@ -303,6 +322,7 @@ static int case_held(int function)
     case 'i': return amount_at_held("fw_imbalance", fw_imbalance, 0);
     case 'e': return amount_at_held("fw_imbalance", fw_imbalance, 1);
     case 'm': return amount_at_held("fw_moment", fw_moment, 0);
+    case 'f': return first_held();
     case 's': return shear_held();
     case 'l': return depths_held();
     case 'b': return book_held();

@@ -16,11 +16,13 @@ static int answers_alike(const uint8_t *part, size_t len, section s)
     int64_t row[WORDS] = {0}, alone_row[WORDS] = {0};
     fw_drawn drawn = fw_draw(part, len, -141), alone_drawn = fw_draw(r.bytes, r.len, -141);
     fw_listed listed = fw_depths(part, len, row, WORDS), alone_listed = fw_depths(r.bytes, r.len, alone_row, WORDS);
+    fw_first_depth first = fw_first(part, len), alone_first = fw_first(r.bytes, r.len);
     fw_amount shear = fw_shear(part, len), alone_shear = fw_shear(r.bytes, r.len);
     return drawn.refusal == alone_drawn.refusal && bits_of(drawn.point.strain) == bits_of(alone_drawn.point.strain) &&
            bits_of(drawn.point.stress) == bits_of(alone_drawn.point.stress) && listed.refusal == alone_listed.refusal &&
-           listed.count == alone_listed.count && memcmp(row, alone_row, sizeof row) == 0 && shear.refusal == alone_shear.refusal &&
-           shear.amount == alone_shear.amount;
+           listed.count == alone_listed.count && memcmp(row, alone_row, sizeof row) == 0 && first.refusal == alone_first.refusal &&
+           first.depth == alone_first.depth && first.kind == alone_first.kind && first.moment == alone_first.moment &&
+           shear.refusal == alone_shear.refusal && shear.amount == alone_shear.amount;
 }
 
 /* A record is at a place that 4 divides, so at any address where the book is. */

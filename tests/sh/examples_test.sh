@@ -1,5 +1,6 @@
 #!/usr/bin/env bash
-# examples/depths.c on the sample book, on books with a negative moment and with a rib, on the longest, and on what is no book.
+# examples/depths.c on the sample book, on books with a negative moment and with a rib, on the longest, and on what is no book; and
+# examples/knob.c, which has at each load the first depth that depths.c prints.
 set -u
 cd "$(dirname "$0")/../.." || exit 1
 . tests/sh/check.sh
@@ -45,6 +46,25 @@ printf '\0' >>"$book"
 check 'a byte more' gives 2 "$expected" "$depths" "$book"
 head -c 75 crates/booklines/stdin >"$book"
 check 'cut book' gives 2 "$expected" "$depths" "$book"
+
+# What depths.c prints of the plate's first depth at a load. A ten-millionth of a N m is a fifth of a mN half-mm.
+first_of_list() {
+    local line moment
+    one_record 1000 100 30 500 3700 4500 "$1" 0 0 >"$book"
+    "$depths" "$book" >target/tests/printed
+    printf 'load %s N: ' "$1"
+    sed -nE 's/^record 0: (refused [0-9]+),.*/\1/p' target/tests/printed
+    line=$(grep -m 1 '^  x' target/tests/printed) || return
+    moment=$(sed -E 's/.*moment ([0-9]+)\.([0-9]{7}) N m$/\1\2/' <<<"$line")
+    sed -E "s/^  (x .*, moment ).*/\1$((10#$moment / 5)) mN half-mm/" <<<"$line"
+}
+
+check 'knob builds' tests/cc target/tests/knob examples/knob.c
+for ((load = -200000; load <= 1400000; load += 200000)); do
+    first_of_list "$load"
+done >"$expected"
+check 'the knob shows the first of each list' gives 0 "$expected" target/tests/knob
+check 'of which some are refused and some are not' [ "$(grep -c 'refused 14$' "$expected") $(grep -c 'kind 2' "$expected")" = '2 7' ]
 
 check 'missing file' gives 1 /dev/null "$depths" target/tests/none
 check 'missing file is told' says "depths: can't read target/tests/none"

@@ -24,8 +24,10 @@ decided = record {
   imbalance = λ κs a x y e f p q. p ∙ sym q;
   moment = λ κs a x y e f p q. p ∙ sym q;
   listing-refused = λ κs a x y e f p q. p ∙ sym q;
+  first-refused = λ κs a x y e f p q. p ∙ sym q;
   depths = λ κs a x y e f p q. p .0 ∙ sym (q .0);
   depths-row = λ κs a x y e f p q. p .1 ∙ sym (q .1);
+  first = λ κs a x y e f p q. p ∙ sym q;
   shear = λ κs a x y e f p q. p ∙ sym q;
   byte = λ κs a x y e f p q. p .0 ∙ sym (q .0);
   le32 = λ κs a x y e f p q. p ∙ sym q;
@@ -54,5 +56,6 @@ decided = record {
   fw-moment = λ κs a x y e f p q. p ∙ sym q;
   fw-depths = λ κs a x y e f p q. p .0 ∙ sym (q .0);
   fw-depths-row = λ κs a x y e f p q. p .1 ∙ sym (q .1);
+  fw-first = λ κs a x y e f p q. p ∙ sym q;
   fw-shear = λ κs a x y e f p q. p ∙ sym q;
 }

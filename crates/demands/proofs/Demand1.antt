@@ -19,8 +19,9 @@ use Rattle.drawn.specs.Drawn.{noPoint, drawnRefusal, drawnAnswer}
 use Rattle.section.specs.declared.Amount.{Amount}
 use Rattle.forces.specs.Answers.{gridRefusal, amountAnswer}
 use Rattle.depths.specs.declared.Listing.{Listing}
+use Rattle.depths.specs.declared.FirstDepth.{FirstDepth}
 use Rattle.depths.specs.Depths.{listed}
-use Rattle.depths.specs.Answers.{unlisted, listAnswer, rowAfter}
+use Rattle.depths.specs.Answers.{depthsRefusal, unlisted, listAnswer, rowAfter, firstAnswer}
 use Rattle.depths.proofs.Answers.{list-number, list-needed, list-none}
 use Rattle.depths.proofs.Shown.{row-kept}
 use Rattle.shear.specs.Shear.{shearRefusal, shearAnswer}
@@ -36,12 +37,12 @@ use Rattle.writer.specs.declared.Written.{Written}
 use Rattle.writer.specs.Written.{unwritten, writeRefusal, writeAnswer, bookAfter, addRefusal, addAnswer, recordAfter}
 use Rattle.class.specs.declared.ClassAnswer.{ClassAnswer}
 use Rattle.class.specs.Class.{classRefusal, classAnswer}
-use Rattle.panel.specs.Face.{drawnOf, imbalanceOf, momentOf, listOf, rowOf, shearOf}
-use Rattle.demands.specs.Table.{First, bookLines, askedLines, loneLines, sectionLines, layerLines, filedLines, writeLines, addLines, depthsLines, shearLines, classLines, strainLines, gridLines}
-use Rattle.demands.specs.Demand1.{Refuses, RefusesList, RefusesBytes, Demand1}
+use Rattle.panel.specs.Face.{drawnOf, imbalanceOf, momentOf, listOf, rowOf, firstDepthOf, shearOf}
+use Rattle.demands.specs.Table.{First, bookLines, askedLines, loneLines, sectionLines, layerLines, filedLines, writeLines, addLines, firstLines, depthsLines, shearLines, classLines, strainLines, gridLines}
+use Rattle.demands.specs.Demand1.{Refuses, RefusesList, NoFirst, RefusesBytes, Demand1}
 use Rattle.demands.proofs.Free.{free}
-use Rattle.demands.proofs.Shapes.{sections, laws, points, amounts, listings, books, places, records, filings, writings, classes, alone, of-record}
-use Rattle.demands.proofs.Table.{exactly, first-other, book-first, asked-first, lone-first, section-first, layer-first, list-first}
+use Rattle.demands.proofs.Shapes.{sections, laws, points, amounts, listings, firsts, books, places, records, filings, writings, classes, alone, of-record}
+use Rattle.demands.proofs.Table.{exactly, first-other, book-first, asked-first, lone-first, section-first, layer-first, depth-first, list-first}
 use Rattle.demands.proofs.Table.{filed-first, add-first, write-first, write-lacks}
 use Rattle.demands.proofs.Table.{shear-first, class-first, strain-first, grid-first, not-fifteen}
 
@@ -62,6 +63,10 @@ module _ (s : Section) where
   amount-refuses : (d : ℕ) (z : ℤ) {x : Amount} → x ≡ amountAnswer s d z → Refuses (gridLines s d) (x .refusal) (x .amount ≡ pos 0)
   unfolding amountAnswer
   amount-refuses d z = alone amounts (gridLines s d) (gridRefusal s d) _ refl (grid-first s d) refl
+
+  first-refuses : {x : FirstDepth} → x ≡ firstAnswer s → Refuses (firstLines s) (x .refusal) (NoFirst x)
+  unfolding firstAnswer
+  first-refuses = alone firsts (firstLines s) (depthsRefusal s) _ refl (depth-first s) refl
 
   shear-refuses : {x : Amount} → x ≡ shearAnswer s → Refuses (shearLines s) (x .refusal) (x .amount ≡ pos 0)
   unfolding shearAnswer
@@ -146,7 +151,7 @@ module _ (r : List ℕ) (before : List ℤ) where
       rw left (record { refuses = of-record listings r _ _ (inner .refuses) is; needed = rw (← is) at (rest .0); row = rw (← is) at (rest .1) })
 
 pub demand1 : Demand1
-unfolding drawnOf imbalanceOf momentOf shearOf asWritten
+unfolding drawnOf imbalanceOf momentOf firstDepthOf shearOf asWritten
 demand1 = record {
   free = free;
   section-refusal = λ κs a x e p. rw p (exactly _ _ (section-first (a .0)));
@@ -156,6 +161,7 @@ demand1 = record {
   imbalance = λ κs a x e p. amount-refuses (a .0) (a .1 .0) _ p;
   moment = λ κs a x e p. amount-refuses (a .0) (a .1 .0) _ p;
   depths = λ κs a x e p. list-refuses (a .0) (a .1 .0 .now) (p .0) (p .1);
+  first = λ κs a x e p. first-refuses (a .0) p;
   shear = λ κs a x e p. shear-refuses (a .0) p;
   book = λ κs a x e p. book-refuses (a .0 .now) p;
   record-place = λ κs a x e p. place-refuses (a .0 .now) (a .1 .0) p;
@@ -169,6 +175,7 @@ demand1 = record {
   drawn-refused = λ κs a x e p. rw p (refl, refl);
   amount-refused = λ κs a x e p. rw p (refl, refl);
   listing-refused = λ κs a x e p. rw p (refl, refl);
+  first-refused = λ κs a x e p. rw p (refl, (refl, refl, refl));
   fw-book = λ κs a x e p. book-refuses (a .0 .now) p;
   fw-record = λ κs a x e p. place-refuses (a .0 .now) (a .1 .0) p;
   fw-write-book = λ κs a x e p. write-refuses (a .0 .now) (a .1 .0 .now) (p .0) (p .1);
@@ -178,5 +185,6 @@ demand1 = record {
   fw-imbalance = λ κs a x e p. of-record amounts (a .0 .now) _ _ (amount-refuses (sectionIn (a .0 .now)) (a .1 .0) _ refl) p;
   fw-moment = λ κs a x e p. of-record amounts (a .0 .now) _ _ (amount-refuses (sectionIn (a .0 .now)) (a .1 .0) _ refl) p;
   fw-depths = λ κs a x e p. list-of (a .0 .now) (a .1 .0 .now) (p .0) (p .1);
+  fw-first = λ κs a x e p. of-record firsts (a .0 .now) _ _ (first-refuses (sectionIn (a .0 .now)) refl) p;
   fw-shear = λ κs a x e p. of-record amounts (a .0 .now) _ _ (shear-refuses (sectionIn (a .0 .now)) refl) p;
 }

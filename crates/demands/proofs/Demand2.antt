@@ -38,7 +38,8 @@ use Rattle.section.specs.declared.Amount.{Amount}
 use Rattle.section.specs.Amount.{answered}
 use Rattle.forces.proofs.Answers.{amount-is}
 use Rattle.depths.specs.declared.Listing.{Listing}
-use Rattle.depths.specs.Answers.{listAnswer, rowAfter}
+use Rattle.depths.specs.declared.FirstDepth.{FirstDepth}
+use Rattle.depths.specs.Answers.{depthsRefusal, listAnswer, rowAfter, firstAnswer}
 use Rattle.depths.proofs.Answers.{list-number, list-count, row-written}
 use Rattle.shear.specs.Shear.{resistance, shearRefusal, shearAnswer}
 use Rattle.shear.proofs.Theorems.{square-root, cube-root, axial-floor}
@@ -60,10 +61,10 @@ use Rattle.writer.specs.Written.{bookIn, writeRefusal, writeAnswer, bookAfter, 
 use Rattle.writer.proofs.Layers.{layer-length, layer-reads}
 use Rattle.class.specs.declared.ClassAnswer.{ClassAnswer}
 use Rattle.class.specs.Class.{classRefusal, classAnswer}
-use Rattle.panel.specs.Face.{drawnOf, imbalanceOf, momentOf, listOf, rowOf, shearOf}
+use Rattle.panel.specs.Face.{drawnOf, imbalanceOf, momentOf, listOf, rowOf, firstDepthOf, shearOf}
 use Rattle.demands.specs.Table.{First, askedLines}
-use Rattle.demands.specs.Demand2.{Between, LayerAdded, ZeroPast, FlatIdle, ClassIs, PointIs, ListIs, PlaceIs, ReadsAs, Held, LayerPut, Demand2}
-use Rattle.demands.proofs.Shapes.{sections, points, amounts, listings, books, places, records, filings, writings, classes, grants}
+use Rattle.demands.specs.Demand2.{Between, LayerAdded, ZeroPast, FlatIdle, ClassIs, PointIs, ListIs, FirstIs, PlaceIs, ReadsAs, Held, LayerPut, Demand2}
+use Rattle.demands.proofs.Shapes.{sections, points, amounts, listings, firsts, books, places, records, filings, writings, classes, grants}
 use Rattle.demands.proofs.Table.{exactly, asked-first}
 
 -- ---- each answer where it is not refused
@@ -100,6 +101,10 @@ module _ (s : Section) where
       let none = sym (list-number s (length before) is) ∙ h in
       let ok = grants listings (sectionRefusal s) _ is h .0 in
       (list-count s (length before) is ok, left ∙ row-written s before none)
+
+  pub first-is : {x : FirstDepth} → x ≡ firstAnswer s → x .refusal ≡ 0 → FirstIs s x
+  unfolding firstAnswer
+  first-is is h = grants firsts (depthsRefusal s) _ is h .1
 
 module _ (s : List ℕ) where
   book-is : {x : BookAnswer} → x ≡ bookAnswer s → x .refusal ≡ 0 → x .count ≡ countOf s
@@ -170,7 +175,7 @@ module _ (r before : List ℕ) {x : Written} {after : List ℕ} where
       (len, put, λ b. let reads = layer-reads r l b (g .0) fits in read-as (layerRecord s l) after (x .len) there (reads .0) (reads .1))
 
 pub demand2 : Demand2
-unfolding drawnOf imbalanceOf momentOf shearOf asWritten
+unfolding drawnOf imbalanceOf momentOf firstDepthOf shearOf asWritten
 demand2 = record {
   section-refusal = λ κs a x e p. rw p (accepted-exactly (a .0));
   with-layer = λ κs a x e p. layer-is (a .0) _ p;
@@ -189,6 +194,7 @@ demand2 = record {
   imbalance-is = λ κs a x e p. amount-is (a .0) (a .1 .0) _ p;
   moment-is = λ κs a x e p. amount-is (a .0) (a .1 .0) _ p;
   depths = λ κs a x e p. list-is (a .0) (a .1 .0 .now) (p .0) (p .1);
+  first = λ κs a x e p. first-is (a .0) p;
   root = λ κs a x e p. p;
   shear = λ κs a x e p. shear-is (a .0) p;
   square-root = square-root;
@@ -216,5 +222,6 @@ demand2 = record {
   fw-imbalance = λ κs a x e p h. amount-is (sectionIn (a .0 .now)) (a .1 .0) _ (grants amounts (recordRefusal (a .0 .now)) _ p h .1) h;
   fw-moment = λ κs a x e p h. amount-is (sectionIn (a .0 .now)) (a .1 .0) _ (grants amounts (recordRefusal (a .0 .now)) _ p h .1) h;
   fw-depths = λ κs a x e p. list-of (a .0 .now) (a .1 .0 .now) (p .0) (p .1);
+  fw-first = λ κs a x e p h. first-is (sectionIn (a .0 .now)) (grants firsts (recordRefusal (a .0 .now)) _ p h .1) h;
   fw-shear = λ κs a x e p h. shear-is (sectionIn (a .0 .now)) (grants amounts (recordRefusal (a .0 .now)) _ p h .1) h;
 }

@@ -1,6 +1,6 @@
 -- Demand 3, by the theorems of `forces` and `depths`. Assumes nothing.
 use Prim.Native.Nat.{ℕ, _+_, _*_, _≤_}
-use mathlib.Core.Path.{_≡_}
+use mathlib.Core.Path.{_≡_, sym, _∙_, subst}
 use mathlib.Core.Logic.{_⊎_, ⊎-map}
 use mathlib.Core.List.{List, List·Memᴰ}
 use native.Mathlib.Omega.{arith}
@@ -10,6 +10,7 @@ use lib.Signed.{_<ℤ_}
 use Rattle.section.specs.declared.Section.{Section}
 use Rattle.section.specs.Refusal.{sectionRefusal}
 use Rattle.section.specs.Accepted.{Accepted}
+use Rattle.section.proofs.Lines.{none-of}
 use Rattle.section.proofs.Accepted.{accepted, accepts}
 use Rattle.law.specs.Law.{lawOf}
 use Rattle.section.specs.declared.Amount.{Amount}
@@ -19,17 +20,20 @@ use Rattle.forces.proofs.Common.{over, common, common-positive, strip-over, bar
 use Rattle.forces.proofs.Rounded.{imbalance-close, moment-close, above, below}
 use Rattle.forces.proofs.Answers.{amount-is, on-grid}
 use Rattle.depths.specs.declared.Listing.{Listing}
-use Rattle.depths.specs.Depths.{Entry, listed}
+use Rattle.depths.specs.declared.FirstDepth.{FirstDepth}
+use Rattle.depths.specs.Depths.{Entry, entryOf, listed}
 use Rattle.depths.specs.Row.{Shown}
-use Rattle.depths.specs.Answers.{listAnswer, rowAfter}
-use Rattle.depths.proofs.Theorems.{listed-exactly, pair-listed, zero-listed, last-zero-listed}
+use Rattle.depths.specs.Answers.{depthsRefusal, listAnswer, rowAfter, firstAnswer}
+use Rattle.depths.proofs.Answers.{first-number, some-listed}
+use Rattle.depths.proofs.Theorems.{listed-exactly, pair-listed, zero-listed, last-zero-listed, first-balances}
 use Rattle.depths.proofs.Shown.{counted, fourteen, fifteen, words-stay, same-length, shown-exactly, shown-rising}
 use Rattle.record.specs.Record.{recordRefusal, sectionIn}
 use Rattle.record.specs.Alone.{StandsAlone}
 use Rattle.record.proofs.Alone.{record-stands}
-use Rattle.panel.specs.Face.{imbalanceOf, momentOf, listOf, rowOf}
+use Rattle.panel.specs.Face.{imbalanceOf, momentOf, listOf, rowOf, firstDepthOf}
 use Rattle.demands.specs.Demand3.{Exact, ImbalanceNear, MomentNear, ClearlyAbove, ClearlyBelow, ClearlyChanges, RowShows, Lists, Demand3}
-use Rattle.demands.proofs.Shapes.{amounts, grants}
+use Rattle.demands.proofs.Shapes.{amounts, firsts, grants}
+use Rattle.demands.proofs.Demand2.{first-is}
 
 -- ---- the exact sums
 module _ {s : Section} (ok : sectionRefusal s ≡ 0) {x : ℕ} (from : 1 ≤ x) where
@@ -98,6 +102,14 @@ imbalance-near s d is h = let k = on-grid s d _ is h in rw (amount-is s d _ is h
 moment-near : (s : Section) (d : ℕ) {x : Amount} → x ≡ momentAnswer s d → x .refusal ≡ 0 → MomentNear s d (x .amount)
 moment-near s d is h = let k = on-grid s d _ is h in rw (amount-is s d _ is h) (moment-is-near (k .0) (k .1 .0))
 
+first-near : (s : Section) {x : FirstDepth} → x ≡ firstAnswer s → x .refusal ≡ 0 → MomentNear s (x .depth) (x .moment)
+unfolding depthsRefusal
+first-near s is h =
+    let none = sym (first-number s is) ∙ h in
+    let b = first-balances s (some-listed s none) in
+    let near : MomentNear s (entryOf (listed s) 0 .depth) (entryOf (listed s) 0 .moment) = rw (b .moment) (moment-is-near (none-of (sectionRefusal s) _ none .0) (b .from)) in
+    subst (λ (v : FirstDepth). MomentNear s (v .depth) (v .moment)) (sym (first-is s is h)) near
+
 -- ---- of a record that is handed over as bytes
 list-of :
     (r : List ℕ) (before : List ℤ) {x : Listing} {after : List ℤ} → x ≡ listOf r (length before) → after ≡ rowOf r before
@@ -108,7 +120,7 @@ list-of r before is left alone a =
     lists (sectionIn r) before (rw none at is) (rw none at left) (accepts (sectionIn r) a)
 
 pub demand3 : Demand3
-unfolding imbalanceOf momentOf
+unfolding imbalanceOf momentOf firstDepthOf
 demand3 = record {
   depths = λ κs a x e p ok. lists (a .0) (a .1 .0 .now) (p .0) (p .1) (accepts (a .0) ok);
   fw-depths = λ κs a x e p. list-of (a .0 .now) (a .1 .0 .now) (p .0) (p .1);
@@ -116,5 +128,7 @@ demand3 = record {
   fw-imbalance-near = λ κs a x e p h. imbalance-near (sectionIn (a .0 .now)) (a .1 .0) (grants amounts (recordRefusal (a .0 .now)) _ p h .1) h;
   moment-near = λ κs a x e p. moment-near (a .0) (a .1 .0) p;
   fw-moment-near = λ κs a x e p h. moment-near (sectionIn (a .0 .now)) (a .1 .0) (grants amounts (recordRefusal (a .0 .now)) _ p h .1) h;
+  first-near = λ κs a x e p. first-near (a .0) p;
+  fw-first-near = λ κs a x e p h. first-near (sectionIn (a .0 .now)) (grants firsts (recordRefusal (a .0 .now)) _ p h .1) h;
   exact = exact;
 }

@@ -22,7 +22,9 @@ free = record {
   imbalance = λ κs a. tt;
   moment = λ κs a. tt;
   listing-refused = λ κs a. tt;
+  first-refused = λ κs a. tt;
   depths = λ κs a. tt;
+  first = λ κs a. tt;
   shear = λ κs a. tt;
   byte = λ κs a. tt;
   le32 = λ κs a. tt;
@@ -46,5 +48,6 @@ free = record {
   fw-imbalance = λ κs a. tt;
   fw-moment = λ κs a. tt;
   fw-depths = λ κs a. tt;
+  fw-first = λ κs a. tt;
   fw-shear = λ κs a. tt;
 }

@@ -12,3 +12,4 @@ pub mod Request2
 pub mod Request3
 pub mod Plain
 pub mod Request4
+pub mod Request5

@@ -32,8 +32,8 @@ use Rattle.drawn.specs.Drawn.{pointAt, inDrawnRange, drawnRefusal, drawn, drawn
 use Rattle.drawn.specs.Drawn as Drawn
 use Rattle.forces.specs.Forces.{stripStress, lever, stripForce, barForce, stripMoment, barMoment, forces, moments, imbalance, moment}
 use Rattle.forces.specs.Answers.{gridRefusal, amountAnswer, imbalanceAnswer, momentAnswer}
-use Rattle.depths.specs.Depths.{kindOf, kindAt, listTo, listed, written}
-use Rattle.depths.specs.Answers.{depthsRefusal, listRefusal, unlisted, listAnswer, rowAfter}
+use Rattle.depths.specs.Depths.{entryOf, kindOf, kindAt, listTo, listed, written}
+use Rattle.depths.specs.Answers.{depthsRefusal, listRefusal, unlisted, noFirst, listAnswer, rowAfter, firstOfList, firstAnswer}
 use Rattle.shear.specs.Shear.{kOf, cOf, atLeastZero, axialShare, concreteShare, kfOf, fibreShare, stirrups, struts, resistanceUnder, resistance, shearRefusal, shearAnswer}
 use Rattle.shear.proofs.Flange.{kf-without, kf-level}
 use Rattle.record.specs.Record.{recordSize}
@@ -145,9 +145,17 @@ module _ {s : Section} (p : Plain s) where
   unfolding shearAnswer shearRefusal
   shear-alike = λ j. unlessRefused (firstOf (p .right j) (line (ltb 0 (s .count)) 16 0)) (answered (pos (shear-same j))) noAmount
 
+  none-alike : depthsRefusal s ≡ depthsRefusal (rectangle s)
+  unfolding depthsRefusal
+  none-alike = λ j. firstOf (p .right j) (line (ltb 0 (length (list-same j))) 14 0)
+
+  pub first-alike : firstAnswer s ≡ firstAnswer (rectangle s)
+  unfolding firstAnswer
+  first-alike = λ j. unlessRefused (none-alike j) (firstOfList (entryOf (list-same j) 0)) noFirst
+
   number-alike : (room : ℕ) → listRefusal s room ≡ listRefusal (rectangle s) room
-  unfolding listRefusal depthsRefusal
-  number-alike room = λ j. firstOf (firstOf (p .right j) (line (ltb 0 (length (list-same j))) 14 0)) (line (leb (3 * length (list-same j)) room) 15 0)
+  unfolding listRefusal
+  number-alike room = λ j. firstOf (none-alike j) (line (leb (3 * length (list-same j)) room) 15 0)
 
   pub list-alike : (room : ℕ) → listAnswer s room ≡ listAnswer (rectangle s) room
   unfolding listAnswer

@@ -8,7 +8,6 @@ use native.Mathlib.Omega.{arith}
 use borrow.Author.Tests.{eq-eqb, ne-eqb}
 use Rattle.section.specs.declared.Section.{Section}
 use Rattle.section.proofs.Accepted.{accepts}
-use Rattle.law.specs.declared.Law.{Law}
 use Rattle.law.specs.declared.LawAnswer.{LawAnswer}
 use Rattle.law.specs.Law.{limitDepth, effectiveDepth, lawBy, lawWith, lawOf, lawAnswer}
 use Rattle.law.proofs.Ranges.{depth-below, depth-most, one-depth}
@@ -20,17 +19,18 @@ use Rattle.forces.specs.Forces.{imbalanceUnder, moments, imbalance, moment}
 use Rattle.forces.specs.Answers.{imbalanceAnswer, momentAnswer}
 use Rattle.forces.proofs.Answers.{amount-is}
 use Rattle.depths.specs.declared.Listing.{Listing}
-use Rattle.depths.specs.Depths.{kindAt, listed, listedUnder, written}
-use Rattle.depths.specs.Answers.{listAnswer, rowAfter}
+use Rattle.depths.specs.declared.FirstDepth.{FirstDepth}
+use Rattle.depths.specs.Depths.{entryOf, kindAt, listed, listedUnder, written}
+use Rattle.depths.specs.Answers.{listAnswer, rowAfter, firstOfList, firstAnswer}
 use Rattle.depths.proofs.Answers.{list-number, list-count, row-written}
 use Rattle.shear.specs.Shear.{resistanceUnder, shearAnswer}
 use Rattle.record.specs.Record.{recordRefusal, sectionIn}
 use Rattle.record.specs.Alone.{StandsAlone}
 use Rattle.record.proofs.Alone.{record-stands}
-use Rattle.panel.specs.Face.{drawnOf, imbalanceOf, momentOf, listOf, rowOf, shearOf}
+use Rattle.panel.specs.Face.{drawnOf, imbalanceOf, momentOf, listOf, rowOf, firstDepthOf, shearOf}
 use Rattle.demands.specs.Request2.{TwoDepths, deepestLaw, OneSteel, ListKept, Request2}
-use Rattle.demands.proofs.Shapes.{points, amounts, grants}
-use Rattle.demands.proofs.Demand2.{law-is, point-is, shear-is}
+use Rattle.demands.proofs.Shapes.{points, amounts, firsts, grants}
+use Rattle.demands.proofs.Demand2.{law-is, point-is, first-is, shear-is}
 
 -- ---- the two depths
 module _ (s : Section) {x : LawAnswer} (is : x ≡ lawAnswer s) (h : x .refusal ≡ 0) where
@@ -77,6 +77,9 @@ module _ {s : Section} (o : OneSteel s) where
     λ h. left ∙ row-written s before (sym (list-number s (length before) is) ∙ h) ∙ ap (λ es. written es before) same-list,
   )
 
+  first-kept : {x : FirstDepth} → x ≡ firstAnswer s → x .refusal ≡ 0 → x ≡ firstOfList (entryOf (listedUnder (deepestLaw s) s) 0)
+  first-kept is h = first-is s is h ∙ ap (λ es. firstOfList (entryOf es 0)) same-list
+
 list-of :
     (r : List ℕ) (before : List ℤ) {x : Listing} {after : List ℤ} → x ≡ listOf r (length before) → after ≡ rowOf r before
     → StandsAlone r → OneSteel (sectionIn r) → ListKept (sectionIn r) before x after
@@ -84,7 +87,7 @@ unfolding listOf rowOf
 list-of r before is left alone o = let none = record-stands r .1 alone in list-kept o before (rw none at is) (rw none at left)
 
 pub request2 : Request2
-unfolding drawnOf imbalanceOf momentOf shearOf
+unfolding drawnOf imbalanceOf momentOf firstDepthOf shearOf
 request2 = record {
   without-bars = λ κs a x e p. without (a .0) p;
   with-bars = λ κs a x e p. both (a .0) p;
@@ -93,10 +96,12 @@ request2 = record {
   imbalance = λ κs a x e p o. imbalance-kept o (a .1 .0) p;
   moment = λ κs a x e p o. moment-kept o (a .1 .0) p;
   depths = λ κs a x e p o. list-kept o (a .1 .0 .now) (p .0) (p .1);
+  first = λ κs a x e p o. first-kept o p;
   shear = λ κs a x e p o. shear-kept o p;
   fw-draw = λ κs a x e p o h. point-kept o (a .1 .0) (grants points (recordRefusal (a .0 .now)) _ p h .1) h;
   fw-imbalance = λ κs a x e p o h. imbalance-kept o (a .1 .0) (grants amounts (recordRefusal (a .0 .now)) _ p h .1) h;
   fw-moment = λ κs a x e p o h. moment-kept o (a .1 .0) (grants amounts (recordRefusal (a .0 .now)) _ p h .1) h;
   fw-depths = λ κs a x e p. list-of (a .0 .now) (a .1 .0 .now) (p .0) (p .1);
+  fw-first = λ κs a x e p o h. first-kept o (grants firsts (recordRefusal (a .0 .now)) _ p h .1) h;
   fw-shear = λ κs a x e p o h. shear-kept o (grants amounts (recordRefusal (a .0 .now)) _ p h .1) h;
 }

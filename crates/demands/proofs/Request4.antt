@@ -22,23 +22,24 @@ use Rattle.drawn.specs.Drawn.{drawnAnswer}
 use Rattle.forces.specs.Answers.{imbalanceAnswer, momentAnswer}
 use Rattle.forces.proofs.Answers.{amount-is}
 use Rattle.depths.specs.declared.Listing.{Listing}
-use Rattle.depths.specs.Depths.{written}
-use Rattle.depths.specs.Answers.{listAnswer, rowAfter}
+use Rattle.depths.specs.declared.FirstDepth.{FirstDepth}
+use Rattle.depths.specs.Depths.{entryOf, written}
+use Rattle.depths.specs.Answers.{listAnswer, rowAfter, firstOfList, firstAnswer}
 use Rattle.shear.specs.Shear.{kfOf, shearAnswer}
 use Rattle.record.specs.Record.{flangeSize, recordRefusal, sectionIn}
 use Rattle.record.specs.Alone.{StandsAlone}
 use Rattle.record.specs.Filed.{unsigned32, placesOf, filed, asWritten, filedAnswer}
 use Rattle.record.proofs.Alone.{record-stands}
-use Rattle.panel.specs.Face.{drawnOf, imbalanceOf, momentOf, listOf, rowOf, shearOf}
+use Rattle.panel.specs.Face.{drawnOf, imbalanceOf, momentOf, listOf, rowOf, firstDepthOf, shearOf}
 use Rattle.demands.specs.Table.{_unless_}
 use Rattle.demands.specs.Demand1.{ByTable}
 use Rattle.demands.specs.Demand2.{ListIs}
-use Rattle.demands.specs.Request4.{plainLines, Flat, rectangle, Level, Two, plainImbalance, plainMoment, plainShear, ListBefore, rib, ribRecord, Request4}
-use Rattle.demands.proofs.Demand2.{list-is, list-of, shear-is}
-use Rattle.demands.proofs.Shapes.{amounts, grants}
+use Rattle.demands.specs.Request4.{plainLines, Flat, rectangle, Level, Two, plainImbalance, plainMoment, plainList, plainShear, ListBefore, rib, ribRecord, Request4}
+use Rattle.demands.proofs.Demand2.{list-is, first-is, list-of, shear-is}
+use Rattle.demands.proofs.Shapes.{amounts, firsts, grants}
 use Rattle.demands.proofs.Table.{exactly, without-line, section-first}
 use Rattle.demands.proofs.Plain.{Plain, flat-plain, level-plain, imbalance-plain, moment-plain, list-plain, shear-plain}
-use Rattle.demands.proofs.Plain.{law-alike, draw-alike, imbalance-alike, moment-alike, shear-alike, list-alike, row-alike, filed-alike, added-alike}
+use Rattle.demands.proofs.Plain.{law-alike, draw-alike, imbalance-alike, moment-alike, first-alike, shear-alike, list-alike, row-alike, filed-alike, added-alike}
 
 -- ---- two answers
 alike : {X : Type 0} (f : Section → X) {s t : Section} {x y : X} → f s ≡ f (rectangle s) → t ≡ rectangle s → x ≡ f s → y ≡ f t → x ≡ y
@@ -65,6 +66,9 @@ module _ {s : Section} (p : Plain s) where
 
   list-before : (before : List ℤ) (x : Listing) {after : List ℤ} → ListIs s before x after → ListBefore s before x after
   list-before before x is = let same = list-plain p in (is .0 ∙ ap length same, is .1 ∙ ap (λ es. written es before) same)
+
+  first-before : {x : FirstDepth} → x ≡ firstAnswer s → x .refusal ≡ 0 → x ≡ firstOfList (entryOf (plainList s) 0)
+  first-before is h = first-is s is h ∙ ap (λ es. firstOfList (entryOf es 0)) (list-plain p)
 
   shear-before : {x : Amount} → x ≡ shearAnswer s → x .refusal ≡ 0 → x .amount ≡ pos (plainShear s)
   shear-before is h = shear-is s is h ∙ ap pos (shear-plain p)
@@ -124,6 +128,10 @@ module _ {r q : List ℕ} (two : Two Level r q) where
   unfolding momentOf
   face-moment {d} k is js = alike-at momentAnswer (moment-alike plain d) (two .same) k (of-read r _ _ (two .rib) is) (of-read q _ _ (two .other) js)
 
+  face-first : {x y : FirstDepth} → x ≡ firstDepthOf r → y ≡ firstDepthOf q → x ≡ y
+  unfolding firstDepthOf
+  face-first is js = alike firstAnswer (first-alike plain) (two .same) (of-read r _ _ (two .rib) is) (of-read q _ _ (two .other) js)
+
   face-shear : {x y : Amount} → x ≡ shearOf r → y ≡ shearOf q → x ≡ y
   unfolding shearOf
   face-shear is js = alike shearAnswer (shear-alike plain) (two .same) (of-read r _ _ (two .rib) is) (of-read q _ _ (two .other) js)
@@ -138,7 +146,7 @@ module _ {r q : List ℕ} (two : Two Level r q) where
       (of-read r _ _ (two .rib) (a .0), of-read r _ _ (two .rib) (a .1)) (of-read q _ _ (two .other) (b .0), of-read q _ _ (two .other) (b .1))
 
 pub request4 : Request4
-unfolding asWritten imbalanceOf momentOf shearOf
+unfolding asWritten imbalanceOf momentOf firstDepthOf shearOf
 request4 = record {
   section-refusal = λ κs a x e p f κ b y g q r. alike sectionRefusal (flat-plain f .right) r p q;
   with-layer = λ κs a x e p f κ b y g q r d w. added-alike (a .0) f _ p (q ∙ (λ j. addedAnswer (r j) (record { depth = d j; area = w j })));
@@ -149,6 +157,7 @@ request4 = record {
   imbalance = λ κs a x e p f κ b y g q r d. alike-at imbalanceAnswer (imbalance-alike (flat-plain f) (a .1 .0)) r d p q;
   moment = λ κs a x e p f κ b y g q r d. alike-at momentAnswer (moment-alike (flat-plain f) (a .1 .0)) r d p q;
   depths = λ κs a x e p f κ b y g q r d. lists-alike (flat-plain f) r d p q;
+  first = λ κs a x e p f κ b y g q r. alike firstAnswer (first-alike (flat-plain f)) r p q;
   shear = λ κs a x e p f κ b y g q r. alike shearAnswer (shear-alike (flat-plain f)) r p q;
   filed = λ κs a x e p f κ b y g q r. alike filedAnswer (filed-alike (a .0) f) r p q;
   record-of = λ κs a x e p f κ b y g q r. alike (λ v. filedAnswer (asWritten v)) (filed-alike (asWritten (a .0)) f) r p q;
@@ -156,6 +165,7 @@ request4 = record {
   imbalance-before = λ κs a x e p f h. imbalance-before (flat-plain f) (a .1 .0) p h;
   moment-before = λ κs a x e p f h. moment-before (flat-plain f) (a .1 .0) p h;
   depths-before = λ κs a x e p f h. list-before (flat-plain f) (a .1 .0 .now) x (list-is (a .0) (a .1 .0 .now) (p .0) (p .1) h);
+  first-before = λ κs a x e p f h. first-before (flat-plain f) p h;
   shear-before = λ κs a x e p f h. shear-before (flat-plain f) p h;
   level-refusal = λ κs a x e p f κ b y g q r. alike sectionRefusal (level-plain f .right) r p q;
   level-law-of = λ κs a x e p f κ b y g q r. alike lawAnswer (law-alike (level-plain f)) r p q;
@@ -163,15 +173,18 @@ request4 = record {
   level-imbalance = λ κs a x e p f κ b y g q r d. alike-at imbalanceAnswer (imbalance-alike (level-plain f) (a .1 .0)) r d p q;
   level-moment = λ κs a x e p f κ b y g q r d. alike-at momentAnswer (moment-alike (level-plain f) (a .1 .0)) r d p q;
   level-depths = λ κs a x e p f κ b y g q r d. lists-alike (level-plain f) r d p q;
+  level-first = λ κs a x e p f κ b y g q r. alike firstAnswer (first-alike (level-plain f)) r p q;
   level-shear = λ κs a x e p f κ b y g q r. alike shearAnswer (shear-alike (level-plain f)) r p q;
   fw-draw = λ κs a x e p κ b y g q two d. face-draw two d p q;
   fw-imbalance = λ κs a x e p κ b y g q two d. face-imbalance two d p q;
   fw-moment = λ κs a x e p κ b y g q two d. face-moment two d p q;
   fw-depths = λ κs a x e p κ b y g q two d. face-lists two d p q;
+  fw-first = λ κs a x e p κ b y g q two. face-first two p q;
   fw-shear = λ κs a x e p κ b y g q two. face-shear two p q;
   fw-imbalance-before = λ κs a x e p f h. imbalance-before (flat-plain f) (a .1 .0) (grants amounts (recordRefusal (a .0 .now)) _ p h .1) h;
   fw-moment-before = λ κs a x e p f h. moment-before (flat-plain f) (a .1 .0) (grants amounts (recordRefusal (a .0 .now)) _ p h .1) h;
   fw-depths-before = λ κs a x e p f h. list-before (flat-plain f) (a .1 .0 .now) x (list-of (a .0 .now) (a .1 .0 .now) (p .0) (p .1) h);
+  fw-first-before = λ κs a x e p f h. first-before (flat-plain f) (grants firsts (recordRefusal (a .0 .now)) _ p h .1) h;
   fw-shear-before = λ κs a x e p f h. shear-before (flat-plain f) (grants amounts (recordRefusal (a .0 .now)) _ p h .1) h;
   figures = (rib-record, rib-area, rib-depth, rib-kf);
 }

@@ -20,7 +20,8 @@ use Rattle.drawn.specs.Drawn as Drawn
 use Rattle.section.specs.declared.Amount.{Amount}
 use Rattle.section.specs.Amount.{noAmount}
 use Rattle.depths.specs.declared.Listing.{Listing}
-use Rattle.depths.specs.Answers.{unlisted}
+use Rattle.depths.specs.declared.FirstDepth.{FirstDepth}
+use Rattle.depths.specs.Answers.{unlisted, noFirst}
 use Rattle.book.specs.declared.BookAnswer.{BookAnswer}
 use Rattle.book.specs.declared.RecordAnswer.{RecordAnswer}
 use Rattle.record.specs.declared.SectionAnswer.{SectionAnswer}
@@ -34,7 +35,7 @@ use Rattle.writer.specs.Written.{unwritten}
 use Rattle.class.specs.declared.ClassAnswer.{ClassAnswer}
 use Rattle.class.specs.Class as Class
 use Rattle.demands.specs.Table.{Line, First, loneLines}
-use Rattle.demands.specs.Demand1.{Refuses}
+use Rattle.demands.specs.Demand1.{Refuses, NoFirst}
 use Rattle.demands.proofs.Table.{exactly, lacks, then-first, lone-first}
 
 pub record Shape (X : Type 0) : Type 1 where
@@ -71,6 +72,9 @@ listings = record {
   bears = λ k. refl;
   none = λ k h. refl;
 }
+
+abbrev pub firsts : Shape FirstDepth
+firsts = record { number = λ x. x .refusal; zeros = NoFirst; refused = noFirst; bears = λ k. refl; none = λ k. (refl, refl, refl) }
 
 abbrev pub books : Shape BookAnswer
 books = record { number = λ x. x .refusal; zeros = λ x. x .count ≡ 0; refused = noBook; bears = λ k. refl; none = λ k. refl }

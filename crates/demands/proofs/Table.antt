@@ -20,7 +20,7 @@ use Rattle.drawn.specs.Drawn.{drawnRefusal}
 use Rattle.drawn.proofs.Strains.{drawable-is}
 use Rattle.section.specs.Has.{lastDepth}
 use Rattle.forces.specs.Answers.{gridRefusal}
-use Rattle.depths.specs.Depths.{listed, SomeDepth}
+use Rattle.depths.specs.Depths.{listed}
 use Rattle.depths.specs.Answers.{depthsRefusal, listRefusal}
 use Rattle.depths.proofs.Theorems.{some-depth}
 use Rattle.shear.specs.Shear.{shearRefusal}
@@ -33,7 +33,7 @@ use Rattle.writer.specs.Records.{partFrom, placeAt, refusalAt, countIn, firstBe
 use Rattle.writer.specs.Written.{bookIn, writeRefusal, addRefusal}
 use Rattle.class.specs.Class.{classRefusal}
 use Rattle.class.proofs.Refused.{class-line, class-in}
-use Rattle.demands.specs.Table.{Line, _unless_, First, bookLines, askedLines, loneLines, sectionLines, layerLines, filedLines, recordLines, recordsLines, writeLines, addLines, depthsLines, shearLines, classLines, strainLines, gridLines}
+use Rattle.demands.specs.Table.{Line, _unless_, First, bookLines, askedLines, loneLines, sectionLines, layerLines, filedLines, recordLines, recordsLines, writeLines, addLines, firstLines, depthsLines, shearLines, classLines, strainLines, gridLines}
 use Rattle.demands.specs.Demand1.{ByTable}
 
 -- ---- lines in order
@@ -158,11 +158,14 @@ module _ (s : Section) (ms : List Line) (m : ℕ) where
   after-section : First ms m → First (sectionLines s ++ ms) (firstOf (sectionRefusal s) m)
   after-section g = then-first (sectionLines s) ms (sectionRefusal s) m refl (section-first s) g
 
+pub depth-first : (s : Section) → First (firstLines s) (depthsRefusal s)
+unfolding depthsRefusal
+depth-first s = after-section s _ _ (line-first 14 _ _ (some-depth s) no-line)
+
 pub list-first : (s : Section) (room : ℕ) → First (depthsLines s room) (listRefusal s room)
-unfolding listRefusal depthsRefusal
+unfolding listRefusal
 list-first s room =
-    then-first (sectionLines s ++ (14 unless SomeDepth s) ∷ []) _ (depthsRefusal s) _ refl (after-section s _ _ (line-first 14 _ _ (some-depth s) no-line))
-    (line-first 15 _ _ (is-most (3 * length (listed s)) room) no-line)
+    then-first (firstLines s) _ (depthsRefusal s) _ refl (depth-first s) (line-first 15 _ _ (is-most (3 * length (listed s)) room) no-line)
 
 pub shear-first : (s : Section) → First (shearLines s) (shearRefusal s)
 unfolding shearRefusal

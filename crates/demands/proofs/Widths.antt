@@ -23,6 +23,8 @@ widths = record {
   moment = (λ κs. refl, refl);
   fw-depths = refl;
   listed = (λ κs. refl, refl);
+  fw-first = refl;
+  first-depth = (λ κs. refl, refl);
   fw-shear = refl;
   shear = (λ κs. refl, refl);
 }

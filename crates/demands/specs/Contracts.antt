@@ -41,8 +41,12 @@ use Rattle.forces.proofs.moment.Kinds as Moment
 use Rattle.forces.proofs.moment.Reads as MomentReads
 use Rattle.depths.proofs.Listing.refused.Kinds as ListingRefused
 use Rattle.depths.proofs.Listing.refused.Reads as ListingRefusedReads
+use Rattle.depths.proofs.FirstDepth.refused.Kinds as FirstRefused
+use Rattle.depths.proofs.FirstDepth.refused.Reads as FirstRefusedReads
 use Rattle.depths.proofs.depths.Kinds as Depths
 use Rattle.depths.proofs.depths.Reads as DepthsReads
+use Rattle.depths.proofs.first.Kinds as First
+use Rattle.depths.proofs.first.Reads as FirstReads
 use Rattle.shear.proofs.shear.Kinds as Shear
 use Rattle.shear.proofs.shear.Reads as ShearReads
 use Rattle.record.proofs.byte.Kinds as Byte
@@ -89,6 +93,8 @@ use Rattle.panel.proofs.fw_moment.Kinds as FwMoment
 use Rattle.panel.proofs.fw_moment.Reads as FwMomentReads
 use Rattle.panel.proofs.fw_depths.Kinds as FwDepths
 use Rattle.panel.proofs.fw_depths.Reads as FwDepthsReads
+use Rattle.panel.proofs.fw_first.Kinds as FwFirst
+use Rattle.panel.proofs.fw_first.Reads as FwFirstReads
 use Rattle.panel.proofs.fw_shear.Kinds as FwShear
 use Rattle.panel.proofs.fw_shear.Reads as FwShearReads
 
@@ -156,8 +162,14 @@ moment = record { takes = Moment.ps; gives = Moment.r; asked = MomentReads.Asked
 abbrev pub listing-refused : Contract 0
 listing-refused = record { takes = ListingRefused.ps; gives = ListingRefused.r; asked = ListingRefusedReads.Asked; told = ListingRefusedReads.Learnt }
 
+abbrev pub first-refused : Contract 0
+first-refused = record { takes = FirstRefused.ps; gives = FirstRefused.r; asked = FirstRefusedReads.Asked; told = FirstRefusedReads.Learnt }
+
 abbrev pub depths : Contract 1
 depths = record { takes = Depths.ps; gives = Depths.r; asked = DepthsReads.Asked; told = DepthsReads.Learnt }
+
+abbrev pub first : Contract 0
+first = record { takes = First.ps; gives = First.r; asked = FirstReads.Asked; told = FirstReads.Learnt }
 
 abbrev pub shear : Contract 0
 shear = record { takes = Shear.ps; gives = Shear.r; asked = ShearReads.Asked; told = ShearReads.Learnt }
@@ -227,6 +239,9 @@ fw-moment = record { takes = FwMoment.ps; gives = FwMoment.r; asked = FwMomentRe
 
 abbrev pub fw-depths : Contract 2
 fw-depths = record { takes = FwDepths.ps; gives = FwDepths.r; asked = FwDepthsReads.Asked; told = FwDepthsReads.Learnt }
+
+abbrev pub fw-first : Contract 1
+fw-first = record { takes = FwFirst.ps; gives = FwFirst.r; asked = FwFirstReads.Asked; told = FwFirstReads.Learnt }
 
 abbrev pub fw-shear : Contract 1
 fw-shear = record { takes = FwShear.ps; gives = FwShear.r; asked = FwShearReads.Asked; told = FwShearReads.Learnt }

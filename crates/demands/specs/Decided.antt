@@ -40,8 +40,10 @@ pub record Decided : Type 0 where
   pub imbalance : One Contracts.imbalance
   pub moment : One Contracts.moment
   pub listing-refused : One Contracts.listing-refused
+  pub first-refused : One Contracts.first-refused
   pub depths : One Contracts.depths
   pub depths-row : OneIn Contracts.depths (λ κs x e. e .1 .0 .now)
+  pub first : One Contracts.first
   pub shear : One Contracts.shear
   pub byte : One Contracts.byte
   pub le32 : One Contracts.le32
@@ -70,4 +72,5 @@ pub record Decided : Type 0 where
   pub fw-moment : One Contracts.fw-moment
   pub fw-depths : One Contracts.fw-depths
   pub fw-depths-row : OneIn Contracts.fw-depths (λ κs x e. e .1 .0 .now)
+  pub fw-first : One Contracts.fw-first
   pub fw-shear : One Contracts.fw-shear

@@ -13,12 +13,13 @@ use Rattle.section.specs.declared.Section.{Section}
 use Rattle.law.specs.Law.{noLaw}
 use Rattle.drawn.specs.Drawn.{noPoint}
 use Rattle.depths.specs.declared.Listing.{Listing}
+use Rattle.depths.specs.declared.FirstDepth.{FirstDepth}
 use Rattle.depths.specs.Depths.{listed}
 use Rattle.record.specs.Record.{noSection, sectionIn}
 use Rattle.writer.specs.declared.Written.{Written}
 use Rattle.demands.specs.Free.{Free}
 use Rattle.demands.specs.Every as Every
-use Rattle.demands.specs.Table.{Line, First, bookLines, askedLines, loneLines, sectionLines, layerLines, filedLines, writeLines, addLines, depthsLines, shearLines, classLines, strainLines, gridLines}
+use Rattle.demands.specs.Table.{Line, First, bookLines, askedLines, loneLines, sectionLines, layerLines, filedLines, writeLines, addLines, firstLines, depthsLines, shearLines, classLines, strainLines, gridLines}
 
 -- each number is returned exactly where its line is the first that holds of those that concern the call, and 0 exactly where none does
 abbrev pub ByTable : List Line → ℕ → Type 0
@@ -34,6 +35,10 @@ pub record RefusesList (lines : List Line) (s : Section) (before : List ℤ) (x 
   pub refuses : Refuses lines (x .refusal) ((x .refusal ≡ 15 → ⊥) → x .count ≡ 0)
   pub needed : x .refusal ≡ 15 → x .count ≡ length (listed s)
   pub row : (x .refusal ≡ 0 → ⊥) → after ≡ before
+
+-- beside that of a first depth none, no kind and no moment
+abbrev pub NoFirst : FirstDepth → Type 0
+NoFirst x = (x .depth ≡ 0) × (x .kind ≡ 0) × (x .moment ≡ pos 0)
 
 -- beside that of a book or a record that is written no length; and the lent bytes are as they were
 pub record RefusesBytes (lines : List Line) (before : List ℕ) (x : Written) (after : List ℕ) : Type 0 where
@@ -52,6 +57,7 @@ pub record Demand1 : Type 0 where
   pub imbalance : Every.imbalance (λ s d x. Refuses (gridLines s d) (x .refusal) (x .amount ≡ pos 0))
   pub moment : Every.moment (λ s d x. Refuses (gridLines s d) (x .refusal) (x .amount ≡ pos 0))
   pub depths : Every.depths (λ s before x after. RefusesList (depthsLines s (length before)) s before x after)
+  pub first : Every.first (λ s x. Refuses (firstLines s) (x .refusal) (NoFirst x))
   pub shear : Every.shear (λ s x. Refuses (shearLines s) (x .refusal) (x .amount ≡ pos 0))
   -- a book, and a record of it: 1 to 5; the part is empty exactly where one of them holds
   pub book : Every.book (λ bytes x. Refuses (bookLines bytes) (x .refusal) (x .count ≡ 0))
@@ -71,6 +77,7 @@ pub record Demand1 : Type 0 where
   pub drawn-refused : Every.drawn-refused (λ number x. (x .refusal ≡ number) × (x .point ≡ noPoint))
   pub amount-refused : Every.amount-refused (λ number x. (x .refusal ≡ number) × (x .amount ≡ pos 0))
   pub listing-refused : Every.listing-refused (λ number x. (x .refusal ≡ number) × (x .count ≡ 0))
+  pub first-refused : Every.first-refused (λ number x. (x .refusal ≡ number) × NoFirst x)
   -- the C face: the same; of a record that is handed over as bytes 6 first
   pub fw-book : Every.fw-book (λ bytes x. Refuses (bookLines bytes) (x .refusal) (x .count ≡ 0))
   pub fw-record : Every.fw-record (λ bytes i x. Refuses (askedLines bytes i) (x .refusal) ((x .at ≡ 0) × (x .len ≡ 0)))
@@ -81,4 +88,5 @@ pub record Demand1 : Type 0 where
   pub fw-imbalance : Every.fw-imbalance (λ part d x. Refuses (loneLines part ++ gridLines (sectionIn part) d) (x .refusal) (x .amount ≡ pos 0))
   pub fw-moment : Every.fw-moment (λ part d x. Refuses (loneLines part ++ gridLines (sectionIn part) d) (x .refusal) (x .amount ≡ pos 0))
   pub fw-depths : Every.fw-depths (λ part before x after. RefusesList (loneLines part ++ depthsLines (sectionIn part) (length before)) (sectionIn part) before x after)
+  pub fw-first : Every.fw-first (λ part x. Refuses (loneLines part ++ firstLines (sectionIn part)) (x .refusal) (NoFirst x))
   pub fw-shear : Every.fw-shear (λ part x. Refuses (loneLines part ++ shearLines (sectionIn part)) (x .refusal) (x .amount ≡ pos 0))

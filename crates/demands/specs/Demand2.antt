@@ -31,7 +31,9 @@ use Rattle.strips.specs.Strips.{scaleOf, stripSize, stripAt}
 use Rattle.section.specs.Has.{concreteArea, steelArea, steelMoment, loadOf, lastDepth}
 use Rattle.forces.specs.Forces.{strainScale, barAt, imbalance, moment}
 use Rattle.depths.specs.declared.Listing.{Listing}
-use Rattle.depths.specs.Depths.{listed, written}
+use Rattle.depths.specs.declared.FirstDepth.{FirstDepth}
+use Rattle.depths.specs.Depths.{entryOf, listed, written}
+use Rattle.depths.specs.Answers.{firstOfList}
 use Rattle.shear.specs.Shear.{squared, cubed, axialShare, resistance}
 use Rattle.book.specs.declared.RecordAnswer.{RecordAnswer}
 use Rattle.record.specs.Record.{Bytes, le32At, recordSize, layersAt, sizeAt, sectionIn}
@@ -67,6 +69,10 @@ PointIs s e x = (x .point ≡ pointAt (lawOf s) e) × PointNear (lawOf s) e (x .
 -- the list's words, then the row's own
 abbrev pub ListIs : Section → List ℤ → Listing → List ℤ → Type 0
 ListIs s before x after = (x .count ≡ length (listed s)) × (after ≡ written (listed s) before)
+
+-- the list's first entry
+abbrev pub FirstIs : Section → FirstDepth → Type 0
+FirstIs s x = x ≡ firstOfList (entryOf (listed s) 0)
 
 -- the record's place, inside the book; what lies there shows the record
 abbrev pub PlaceIs : List ℕ → ℕ → RecordAnswer → Type 0
@@ -112,10 +118,11 @@ pub record Demand2 : Type 0 where
   -- the neutral axis at a depth of a section has its strains; the stress of a bar at a depth, rounded
   pub axis-at : Every.axis-at (λ l d x. (s : Section) → Accepted s → l ≡ lawOf s → 1 ≤ d → d ≤ lastDepth s → (x .x ≡ d) × (scaleOf x ≡ strainScale (lawOf s) (x .x)))
   pub bar : Every.bar (λ l axis depth x. x ≡ rounded (barAt l (scaleOf axis) (axis .x) depth))
-  -- the sums of a depth, and the list
+  -- the sums of a depth, the list, and its first entry alone
   pub imbalance-is : Every.imbalance (λ s d x. x .refusal ≡ 0 → x .amount ≡ imbalance s d)
   pub moment-is : Every.moment (λ s d x. x .refusal ≡ 0 → x .amount ≡ moment s d)
   pub depths : Every.depths (λ s before x after. x .refusal ≡ 0 → ListIs s before x after)
+  pub first : Every.first (λ s x. x .refusal ≡ 0 → FirstIs s x)
   -- a root, of so many digits of it; shear, whose roots are the largest of all numbers, and whose axial share is rounded towards minus infinity
   pub root : Every.root (λ cube digits by bound x. Root (raised cube by) (past digits) bound x)
   pub shear : Every.shear (λ s x. x .refusal ≡ 0 → x .amount ≡ pos (resistance s))
@@ -151,4 +158,5 @@ pub record Demand2 : Type 0 where
   pub fw-imbalance : Every.fw-imbalance (λ part d x. x .refusal ≡ 0 → x .amount ≡ imbalance (sectionIn part) d)
   pub fw-moment : Every.fw-moment (λ part d x. x .refusal ≡ 0 → x .amount ≡ moment (sectionIn part) d)
   pub fw-depths : Every.fw-depths (λ part before x after. x .refusal ≡ 0 → ListIs (sectionIn part) before x after)
+  pub fw-first : Every.fw-first (λ part x. x .refusal ≡ 0 → FirstIs (sectionIn part) x)
   pub fw-shear : Every.fw-shear (λ part x. x .refusal ≡ 0 → x .amount ≡ pos (resistance (sectionIn part)))

@@ -101,5 +101,7 @@ pub record Demand3 : Type 0 where
   pub fw-imbalance-near : Every.fw-imbalance (λ part d x. x .refusal ≡ 0 → ImbalanceNear (sectionIn part) d (x .amount))
   pub moment-near : Every.moment (λ s d x. x .refusal ≡ 0 → MomentNear s d (x .amount))
   pub fw-moment-near : Every.fw-moment (λ part d x. x .refusal ≡ 0 → MomentNear (sectionIn part) d (x .amount))
+  pub first-near : Every.first (λ s x. x .refusal ≡ 0 → MomentNear s (x .depth) (x .moment))
+  pub fw-first-near : Every.fw-first (λ part x. x .refusal ≡ 0 → MomentNear (sectionIn part) (x .depth) (x .moment))
   -- exact sums there are, at every depth
   pub exact : (s : Section) → Accepted s → (x : ℕ) → 1 ≤ x → Exact s x

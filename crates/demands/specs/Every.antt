@@ -19,6 +19,7 @@ use Rattle.strips.specs.declared.Axis.{Axis}
 use Rattle.strips.specs.declared.Range.{Range}
 use Rattle.section.specs.declared.Amount.{Amount}
 use Rattle.depths.specs.declared.Listing.{Listing}
+use Rattle.depths.specs.declared.FirstDepth.{FirstDepth}
 use Rattle.record.specs.declared.SectionAnswer.{SectionAnswer}
 use Rattle.record.specs.declared.RecordBytes.{RecordBytes}
 use Rattle.book.specs.declared.BookAnswer.{BookAnswer}
@@ -98,8 +99,14 @@ moment says = Tells Contracts.moment (λ κs a x e. says (a .0) (a .1 .0) x)
 abbrev pub listing-refused : (ℕ → Listing → Type 0) → Type 0
 listing-refused says = Tells Contracts.listing-refused (λ κs a x e. says (a .0) x)
 
+abbrev pub first-refused : (ℕ → FirstDepth → Type 0) → Type 0
+first-refused says = Tells Contracts.first-refused (λ κs a x e. says (a .0) x)
+
 abbrev pub depths : (Section → List ℤ → Listing → List ℤ → Type 0) → Type 0
 depths says = Tells Contracts.depths (λ κs a x e. says (a .0) (a .1 .0 .now) x (e .1 .0 .now))
+
+abbrev pub first : (Section → FirstDepth → Type 0) → Type 0
+first says = Tells Contracts.first (λ κs a x e. says (a .0) x)
 
 -- ---- shear
 abbrev pub shear : (Section → Amount → Type 0) → Type 0
@@ -175,6 +182,9 @@ fw-moment says = Tells Contracts.fw-moment (λ κs a x e. says (a .0 .now) (a .1
 
 abbrev pub fw-depths : (List ℕ → List ℤ → Listing → List ℤ → Type 0) → Type 0
 fw-depths says = Tells Contracts.fw-depths (λ κs a x e. says (a .0 .now) (a .1 .0 .now) x (e .1 .0 .now))
+
+abbrev pub fw-first : (List ℕ → FirstDepth → Type 0) → Type 0
+fw-first says = Tells Contracts.fw-first (λ κs a x e. says (a .0 .now) x)
 
 abbrev pub fw-shear : (List ℕ → Amount → Type 0) → Type 0
 fw-shear says = Tells Contracts.fw-shear (λ κs a x e. says (a .0 .now) x)

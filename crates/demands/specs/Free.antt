@@ -30,7 +30,9 @@ pub record Free : Type 0 where
   pub imbalance : AsksNothing Contracts.imbalance
   pub moment : AsksNothing Contracts.moment
   pub listing-refused : AsksNothing Contracts.listing-refused
+  pub first-refused : AsksNothing Contracts.first-refused
   pub depths : AsksNothing Contracts.depths
+  pub first : AsksNothing Contracts.first
   pub shear : AsksNothing Contracts.shear
   pub byte : AsksNothing Contracts.byte
   pub le32 : AsksNothing Contracts.le32
@@ -54,4 +56,5 @@ pub record Free : Type 0 where
   pub fw-imbalance : AsksNothing Contracts.fw-imbalance
   pub fw-moment : AsksNothing Contracts.fw-moment
   pub fw-depths : AsksNothing Contracts.fw-depths
+  pub fw-first : AsksNothing Contracts.fw-first
   pub fw-shear : AsksNothing Contracts.fw-shear

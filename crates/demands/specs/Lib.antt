@@ -12,3 +12,4 @@ pub mod Request1
 pub mod Request2
 pub mod Request3
 pub mod Request4
+pub mod Request5

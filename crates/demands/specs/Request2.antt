@@ -12,7 +12,8 @@ use Rattle.law.specs.Law.{limitDepth, lawWith}
 use Rattle.drawn.specs.Drawn.{pointAt}
 use Rattle.forces.specs.Forces.{imbalanceUnder, moments}
 use Rattle.depths.specs.declared.Listing.{Listing}
-use Rattle.depths.specs.Depths.{listedUnder, written}
+use Rattle.depths.specs.Depths.{entryOf, listedUnder, written}
+use Rattle.depths.specs.Answers.{firstOfList}
 use Rattle.shear.specs.Shear.{resistanceUnder}
 use Rattle.record.specs.Record.{sectionIn}
 use Rattle.record.specs.Alone.{StandsAlone}
@@ -49,10 +50,12 @@ pub record Request2 : Type 0 where
   pub imbalance : Every.imbalance (λ s d x. OneSteel s → x .refusal ≡ 0 → x .amount ≡ imbalanceUnder (deepestLaw s) s d)
   pub moment : Every.moment (λ s d x. OneSteel s → x .refusal ≡ 0 → x .amount ≡ moments (deepestLaw s) s d)
   pub depths : Every.depths (λ s before x after. OneSteel s → ListKept s before x after)
+  pub first : Every.first (λ s x. OneSteel s → x .refusal ≡ 0 → x ≡ firstOfList (entryOf (listedUnder (deepestLaw s) s) 0))
   pub shear : Every.shear (λ s x. OneSteel s → x .refusal ≡ 0 → x .amount ≡ pos (resistanceUnder (deepestLaw s) s))
   -- and by the C face
   pub fw-draw : Every.fw-draw (λ part e x. OneSteel (sectionIn part) → x .refusal ≡ 0 → x .point ≡ pointAt (deepestLaw (sectionIn part)) e)
   pub fw-imbalance : Every.fw-imbalance (λ part d x. OneSteel (sectionIn part) → x .refusal ≡ 0 → x .amount ≡ imbalanceUnder (deepestLaw (sectionIn part)) (sectionIn part) d)
   pub fw-moment : Every.fw-moment (λ part d x. OneSteel (sectionIn part) → x .refusal ≡ 0 → x .amount ≡ moments (deepestLaw (sectionIn part)) (sectionIn part) d)
   pub fw-depths : Every.fw-depths (λ part before x after. StandsAlone part → OneSteel (sectionIn part) → ListKept (sectionIn part) before x after)
+  pub fw-first : Every.fw-first (λ part x. OneSteel (sectionIn part) → x .refusal ≡ 0 → x ≡ firstOfList (entryOf (listedUnder (deepestLaw (sectionIn part)) (sectionIn part)) 0))
   pub fw-shear : Every.fw-shear (λ part x. OneSteel (sectionIn part) → x .refusal ≡ 0 → x .amount ≡ pos (resistanceUnder (deepestLaw (sectionIn part)) (sectionIn part)))

@@ -15,7 +15,8 @@ use Rattle.law.specs.Law.{lawOf}
 use Rattle.law.specs.Stress.{rounded}
 use Rattle.forces.specs.Forces.{stripStress, barForce, barMoment}
 use Rattle.depths.specs.declared.Listing.{Listing}
-use Rattle.depths.specs.Depths.{Entry, kindOf, listTo, written}
+use Rattle.depths.specs.Depths.{Entry, entryOf, kindOf, listTo, written}
+use Rattle.depths.specs.Answers.{firstOfList}
 use Rattle.shear.specs.Shear.{kOf, cOf, atLeastZero, kfOf, stirrups, struts}
 use Rattle.record.specs.Record.{sectionIn}
 use Rattle.record.specs.Filed.{filed}
@@ -148,18 +149,21 @@ pub record Request4 : Type 0 where
   pub imbalance : AlikeAt Every.imbalance Flat
   pub moment : AlikeAt Every.moment Flat
   pub depths : AlikeList Flat
+  pub first : Alike Every.first Flat
   pub shear : Alike Every.shear Flat
   pub filed : Alike Every.filed Flat
   pub record-of : Alike Every.record-of Flat
-  -- and the answers are document 01's: the refusal, and where nothing is refused imbalance, moment, list and shear, by the C face too
+  -- and the answers are document 01's: the refusal, and where nothing is refused imbalance, moment, list, its first and shear, by the C face too
   pub refusal-before : Every.section-refusal (λ s x. Flat s → ByTable (plainLines s) x)
   pub imbalance-before : Every.imbalance (λ s d x. Flat s → x .refusal ≡ 0 → x .amount ≡ plainImbalance s d)
   pub moment-before : Every.moment (λ s d x. Flat s → x .refusal ≡ 0 → x .amount ≡ plainMoment s d)
   pub depths-before : Every.depths (λ s before x after. Flat s → x .refusal ≡ 0 → ListBefore s before x after)
+  pub first-before : Every.first (λ s x. Flat s → x .refusal ≡ 0 → x ≡ firstOfList (entryOf (plainList s) 0))
   pub shear-before : Every.shear (λ s x. Flat s → x .refusal ≡ 0 → x .amount ≡ pos (plainShear s))
   pub fw-imbalance-before : Every.fw-imbalance (λ r d x. Flat (sectionIn r) → x .refusal ≡ 0 → x .amount ≡ plainImbalance (sectionIn r) d)
   pub fw-moment-before : Every.fw-moment (λ r d x. Flat (sectionIn r) → x .refusal ≡ 0 → x .amount ≡ plainMoment (sectionIn r) d)
   pub fw-depths-before : Every.fw-depths (λ r before x after. Flat (sectionIn r) → x .refusal ≡ 0 → ListBefore (sectionIn r) before x after)
+  pub fw-first-before : Every.fw-first (λ r x. Flat (sectionIn r) → x .refusal ≡ 0 → x ≡ firstOfList (entryOf (plainList (sectionIn r)) 0))
   pub fw-shear-before : Every.fw-shear (λ r x. Flat (sectionIn r) → x .refusal ≡ 0 → x .amount ≡ pos (plainShear (sectionIn r)))
   -- bf = b: a rib answers as the rectangle does
   pub level-refusal : Alike Every.section-refusal Level
@@ -168,6 +172,7 @@ pub record Request4 : Type 0 where
   pub level-imbalance : AlikeAt Every.imbalance Level
   pub level-moment : AlikeAt Every.moment Level
   pub level-depths : AlikeList Level
+  pub level-first : Alike Every.first Level
   pub level-shear : Alike Every.shear Level
   -- and by the C face
   pub fw-draw : FaceAlikeAt Every.fw-draw Level
@@ -175,5 +180,6 @@ pub record Request4 : Type 0 where
   pub fw-moment : FaceAlikeAt Every.fw-moment Level
   pub fw-depths :
       Every.fw-depths (λ r before x after. Every.fw-depths (λ q row y left. Two Level r q → row ≡ before → (x ≡ y) × (after ≡ left)))
+  pub fw-first : Every.fw-first (λ r x. Every.fw-first (λ q y. Two Level r q → x ≡ y))
   pub fw-shear : Every.fw-shear (λ r x. Every.fw-shear (λ q y. Two Level r q → x ≡ y))
   pub figures : RibFigures

@@ -70,9 +70,12 @@ layerLines s l = (12 unless TakesLayer s l) ∷ []
 abbrev pub filedLines : Section → List Line
 filedLines s = (12 unless s .count ≤ 8) ∷ []
 
--- the list of depths, into a row of so many words
+-- the first depth, and the list of depths, into a row of so many words
+abbrev pub firstLines : Section → List Line
+firstLines s = sectionLines s ++ (14 unless SomeDepth s) ∷ []
+
 abbrev pub depthsLines : Section → ℕ → List Line
-depthsLines s room = sectionLines s ++ (14 unless SomeDepth s) ∷ (15 unless 3 * length (listed s) ≤ room) ∷ []
+depthsLines s room = firstLines s ++ (15 unless 3 * length (listed s) ≤ room) ∷ []
 
 abbrev pub shearLines : Section → List Line
 shearLines s = sectionLines s ++ (16 unless 0 < s .count) ∷ []

@@ -19,6 +19,7 @@ use Rattle.drawn.proofs.Point as Point
 use Rattle.drawn.proofs.Drawn as Drawn
 use Rattle.section.proofs.Amount as Amount
 use Rattle.depths.proofs.Listing as Listing
+use Rattle.depths.proofs.FirstDepth as FirstDepth
 use Rattle.demands.specs.Contracts.{Contract}
 use Rattle.demands.specs.Contracts as Contracts
 
@@ -62,5 +63,7 @@ pub record Widths : Type 3 where
   pub moment : Gives Contracts.fw-moment Amount.the-type (u32-field ∷ i64-field ∷ [])
   pub fw-depths : Takes Contracts.fw-depths (bytes ∷ words ∷ [])
   pub listed : Gives Contracts.fw-depths Listing.the-type (u32-field ∷ u32-field ∷ [])
+  pub fw-first : Takes Contracts.fw-first (bytes ∷ [])
+  pub first-depth : Gives Contracts.fw-first FirstDepth.the-type (u32-field ∷ u32-field ∷ u32-field ∷ i64-field ∷ [])
   pub fw-shear : Takes Contracts.fw-shear (bytes ∷ [])
   pub shear : Gives Contracts.fw-shear Amount.the-type (u32-field ∷ i64-field ∷ [])

@@ -1,5 +1,5 @@
 -- The answer of `depths`, from that of `Law::of`, and what it tells. Assumes nothing.
-use Prim.Native.Nat.{ℕ, _*_, _≤_, _<_}
+use Prim.Native.Nat.{ℕ, suc, _*_, _≤_, _<_}
 use mathlib.Core.Path.{_≡_, refl, sym, _∙_}
 use mathlib.Core.Bool.{Bool, true, false}
 use mathlib.Core.List.{List}
@@ -9,15 +9,32 @@ use lib.Dec.{ltb, leb}
 use lib.IntN.{ℤ}
 use lib.ListN.{length}
 use borrow.Author.Tests.{ltb-false, ne-eqb, lt-ltb, lt-leb, le-leb}
-use Rattle.arith.proofs.Answers.{of-answer}
+use Rattle.arith.proofs.Tests.{is-less}
+use Rattle.arith.proofs.Answers.{of-answer, bears}
 use Rattle.section.specs.declared.Section.{Section}
 use Rattle.section.specs.Refusal.{line, firstOf, sectionRefusal}
+use Rattle.section.specs.Has.{lastDepth}
+use Rattle.section.proofs.Lines.{passes, none-of}
 use Rattle.law.specs.declared.LawAnswer.{LawAnswer}
 use Rattle.law.specs.Law.{lawAnswer}
 use Rattle.law.proofs.Answers.{number, some-refusal, no-refusal}
+use Rattle.forces.specs.Forces.{moment}
 use Rattle.depths.specs.declared.Listing.{Listing}
-use Rattle.depths.specs.Depths.{listed, written}
-use Rattle.depths.specs.Answers.{depthsRefusal, listRefusal, unlisted, listAnswer, rowAfter}
+use Rattle.depths.specs.declared.FirstDepth.{FirstDepth}
+use Rattle.depths.specs.declared.Found.{Found}
+use Rattle.depths.specs.Depths.{kindAt, listed, written}
+use Rattle.depths.specs.Answers.{depthsRefusal, listRefusal, unlisted, noFirst, listAnswer, rowAfter, firstAnswer}
+use Rattle.depths.specs.Code.{NoneTo, Next}
+use Rattle.depths.proofs.Listed.{empty-list, list-first}
+
+-- the first depth that has a kind, with it and with its moment, is the first depth's answer
+pub first-at :
+    (s : Section) → sectionRefusal s ≡ 0 → {x k : ℕ} {z : ℤ} → 1 ≤ x → x ≤ lastDepth s → k ≡ kindAt s x → 0 < k → NoneTo s 1 x → z ≡ moment s x
+    → record { refusal = 0; depth = x; kind = k; moment = z } ≡ firstAnswer s
+unfolding firstAnswer depthsRefusal
+first-at s ok {x} from to kind some none e =
+    let l = list-first (kindAt s) (moment s) (lastDepth s) x from to (λ z. omega arith) none in
+    rw (ok, l .1, lt-ltb 0 (suc (length (l .0))) (omega arith)) (λ j. record { refusal = 0; depth = x; kind = kind j; moment = e j })
 
 module _ (s : Section) (a : LawAnswer) (is : a ≡ lawAnswer s) where
   module _ (row : List ℤ) where
@@ -53,6 +70,21 @@ module _ (s : Section) (a : LawAnswer) (is : a ≡ lawAnswer s) where
             let f = le-leb (3 * length (listed s)) (length row) (rw count at h) in
             (rw (z, there, f, count), rw (z, there, f))
 
+  -- ---- the first depth alone, by the next listed from depth 1 on
+  pub refuses-first : (a .refusal ≡ 0 → ⊥) → noFirst (a .refusal) ≡ firstAnswer s
+  unfolding firstAnswer depthsRefusal
+  refuses-first h = let t = some-refusal s is h in rw (t, t, number s is)
+
+  module _ (ok : a .refusal ≡ 0) {f : Found} (next : Next s 1 f) where
+    pub first-none : lastDepth s < f .depth → noFirst 14 ≡ firstAnswer s
+    unfolding firstAnswer depthsRefusal
+    first-none past = rw (no-refusal s is ok, empty-list (kindAt s) (moment s) (lastDepth s) (λ x low high. next .none x low (omega arith)))
+
+    pub first-found :
+        f .depth ≤ lastDepth s → {z : ℤ} → z ≡ moment s (f .depth)
+        → record { refusal = 0; depth = f .depth; kind = f .kind; moment = z } ≡ firstAnswer s
+    first-found inside e = let k = next .listed inside in first-at s (no-refusal s is ok) (next .on) inside (k .0) (k .1) (next .none) e
+
 -- ---- what the list's answer and its row tell
 module _ (s : Section) (room : ℕ) {a : Listing} (is : a ≡ listAnswer s room) where
   pub list-number : a .refusal ≡ listRefusal s room
@@ -85,6 +117,15 @@ module _ (s : Section) (room : ℕ) {a : Listing} (is : a ≡ listAnswer s room)
       pick true e true h k = absurd (h refl)
       pick true e false h k = absurd (k refl)
       pick false e u h k = omega (arith, ltb-false 0 (length (listed s)) e)
+
+-- ---- what the first depth's tells
+pub some-listed : (s : Section) → depthsRefusal s ≡ 0 → 0 < length (listed s)
+unfolding depthsRefusal
+some-listed s none = passes 13 0 (is-less 0 (length (listed s))) (none-of (sectionRefusal s) _ none .1) .0
+
+pub first-number : (s : Section) {x : FirstDepth} → x ≡ firstAnswer s → x .refusal ≡ depthsRefusal s
+unfolding firstAnswer
+first-number s is = rw is (bears (λ (x : FirstDepth). x .refusal) (depthsRefusal s) _ noFirst refl refl)
 
 pub row-written : (s : Section) (row : List ℤ) → listRefusal s (length row) ≡ 0 → rowAfter s row ≡ written (listed s) row
 unfolding rowAfter

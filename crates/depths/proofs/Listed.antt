@@ -68,6 +68,17 @@ module _ (k : ℕ → ℕ) (m : ℕ → ℤ) where
   empty-list zero h = refl
   empty-list (suc n) h = rw (empty-list n (λ x p q. h x p (omega arith)), eq-eqb (k (suc n)) 0 (h (suc n) (omega arith) (omega arith)))
 
+  -- ---- where one is the first that has
+  pub list-first :
+      (n x : ℕ) → 1 ≤ x → x ≤ n → (k x ≡ 0 → ⊥) → ((y : ℕ) → 1 ≤ y → y < x → k y ≡ 0)
+      → (rest : List Entry) × (listTo k m n ≡ entry x ∷ rest)
+  unfolding listTo
+  list-first zero x from to some none = absurd (omega arith)
+  list-first (suc n) x from to some none =
+      ⊎-elim (λ e. ([], rw (empty-list n (λ y low high. none y low (omega arith)), e, ne-eqb (k (suc n)) 0 (rw e at some))))
+      (λ h. let r = list-first n x from (omega arith) some none in (r .0 ++ entryAt k m (suc n), ap (λ es. es ++ entryAt k m (suc n)) (r .1)))
+      (NatL.eq-or-lt-of-le to)
+
   -- ---- one depth more
   module _ (x : ℕ) where
     list-next : listTo k m (x + 1) ≡ listTo k m x ++ entryAt k m (x + 1)

@@ -7,7 +7,7 @@ use mathlib.Core.List.{List, [], _∷_, _++_, List·Memᴰ, List·Memᴰ·head, 
 use native.Mathlib.Nat as NatL
 use native.Mathlib.Omega.{arith}
 use lib.Dec.{ltb, leb, eqb}
-use lib.IntN.{ℤ, pos}
+use lib.IntN.{ℤ}
 use lib.Signed.{_<ℤ_}
 use lib.ListN.{length, drop, length-append, length-drop}
 use lib.Seq.{getD-append-add, getD-drop}
@@ -50,7 +50,7 @@ read-once {e = e} {f = f} r q =
     λ j. record { depth = depth j; kind = kind j; moment = moment j }
 
 module _ (es : List Entry) (rest : List ℤ) where
-  read-at : (i : ℕ) → i < length es → ReadAt (words es ++ rest) i (entryOf es i)
+  pub read-at : (i : ℕ) → i < length es → ReadAt (words es ++ rest) i (entryOf es i)
   read-at i h =
       let word = word-of es rest i in
       record { depth = rw (NatL.add-zero (3 * i)) at (word 0 h (omega arith)); kind = word 1 h (omega arith); moment = word 2 h (omega arith) }

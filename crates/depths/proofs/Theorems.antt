@@ -3,7 +3,8 @@ use Prim.Native.Nat.{ℕ, suc, _+_, _*_, _≤_, _<_}
 use mathlib.Core.Path.{_≡_, refl, ap}
 use mathlib.Core.Bool.{Bool, true, false, false≢true}
 use mathlib.Core.Logic.{_⊎_, ⊎-elim, _↔_, Iff·trans}
-use mathlib.Core.List.{List, [], _∷_, List·Memᴰ, List·Memᴰ·head, List·Memᴰ·not-nil, Memᴰ·cast}
+use mathlib.Core.List.{List, [], _∷_, List·Memᴰ, List·Memᴰ·head, List·Memᴰ·tail, List·Memᴰ·not-nil, Memᴰ·cast}
+use native.Mathlib.Nat.{eq-zero-or-pos}
 use native.Mathlib.Omega.{arith}
 use lib.Dec.{ltb, leb}
 use lib.IntN.{pos}
@@ -16,7 +17,7 @@ use Rattle.section.specs.Refusal.{line, firstOf, sectionRefusal}
 use Rattle.section.proofs.Accepted.{accepted}
 use Rattle.forces.specs.Forces.{imbalance, moment}
 use Rattle.section.specs.Has.{lastDepth}
-use Rattle.depths.specs.Depths.{Entry, kindAt, listed, Balances, SomeDepth, NoDepth, Rising}
+use Rattle.depths.specs.Depths.{Entry, entryOf, kindAt, listed, Balances, SomeDepth, NoDepth, Rising}
 use Rattle.depths.specs.Answers.{depthsRefusal, listRefusal}
 use Rattle.depths.proofs.Listed.{list-only, list-all, list-rising, list-empty, empty-list}
 use Rattle.depths.proofs.Sided.{falls, rises, kind-one, kind-two}
@@ -81,3 +82,26 @@ pub last-zero-listed :
     (s : Section) → sectionRefusal s ≡ 0 → imbalance s (lastDepth s) ≡ pos 0
     → List·Memᴰ (record { depth = lastDepth s; kind = 1; moment = moment s (lastDepth s) }) (listed s)
 last-zero-listed s ok = zero-listed s (lastDepth s) (omega (arith, accepted s ok .sizes .1 .0)) (omega arith)
+
+-- ---- 4. the first that is listed is the shallowest that balances
+deeper : (low : ℕ) (es : List Entry) → Rising low es → {e : Entry} → List·Memᴰ e es → low < e .depth
+deeper low (f ∷ es) r (List·Memᴰ·head e) = omega (arith, r .0, ap (λ v. v .depth) e)
+deeper low (f ∷ es) r (List·Memᴰ·tail w) = omega (arith, r .0, deeper (f .depth) es (r .1) w)
+
+first-in : (es : List Entry) → 0 < length es → List·Memᴰ (entryOf es 0) es
+first-in [] h = absurd (omega arith)
+first-in (e ∷ es) h = List·Memᴰ·head refl
+
+first-least : (es : List Entry) → Rising 0 es → {e : Entry} → List·Memᴰ e es → entryOf es 0 .depth ≤ e .depth
+first-least (f ∷ es) r (List·Memᴰ·head e) = omega (arith, ap (λ v. v .depth) e)
+first-least (f ∷ es) r (List·Memᴰ·tail w) = omega (arith, deeper (f .depth) es (r .1) w)
+
+pub first-balances : (s : Section) → 0 < length (listed s) → Balances s (entryOf (listed s) 0)
+first-balances s some = listed-exactly s _ .0 (first-in (listed s) some)
+
+pub first-shallowest : (s : Section) → 0 < length (listed s) → (x : ℕ) → 1 ≤ x → x < entryOf (listed s) 0 .depth → kindAt s x ≡ 0
+first-shallowest s some x from to =
+    let inside = first-balances s some .to in
+    ⊎-elim (λ z. z)
+    (λ kind. absurd (omega (arith, first-least (listed s) (listed-rising s) (list-all (kindAt s) (moment s) (lastDepth s) x from (omega arith) kind))))
+    (eq-zero-or-pos (kindAt s x))

@@ -1,5 +1,5 @@
-// Where the forces of a section balance: the sign of the imbalance at each depth, and the list of every depth (document 01, 'Strains, strips and
-// balance'). A list needs no imbalance but its sign: bounds of the strips' force give it without a strip visited wherever zero does not lie between
+// Where the forces of a section balance: the sign of the imbalance at each depth, the list of every depth, and the first alone (document 01, 'Strains,
+// strips and balance'; document 02 [5]). A list needs no imbalance but its sign: bounds of the strips' force give it without a strip visited wherever zero does not lie between
 // them, and the rule itself where it does.
 ghost use mathlib.Core.Path.{_≡_};
 ghost use Prim.Native.Nat.{_+_, _*_, _-_, _≤_, _<_};
@@ -13,7 +13,7 @@ ghost use Rattle.strips.specs.Strips.{scaleOf, stripAt};
 ghost use Rattle.forces.specs.Forces.{strainScale, stripForce, barForce, imbalance, moment};
 ghost use Rattle.depths.specs.Depths.{listed, written};
 ghost use Rattle.depths.specs.Code.{mostRun, mostBars, Lies, runEnd, signOf, signLooked, openFrom, Next, Kept};
-ghost use Rattle.depths.specs.Answers.{unlisted, listAnswer, rowAfter};
+ghost use Rattle.depths.specs.Answers.{unlisted, noFirst, listAnswer, rowAfter, firstAnswer};
 use law::Law;
 use section::Section;
 use strips::Axis;
@@ -23,6 +23,14 @@ use strips::Range;
 pub struct Listing {
     pub refusal: u32,
     pub count: u32,
+}
+
+#[repr(C)]
+pub struct FirstDepth {
+    pub refusal: u32,
+    pub depth: u32,
+    pub kind: u32,
+    pub moment: i64,
 }
 
 // Strips of one width up to a strip, which is not among them.
@@ -47,6 +55,20 @@ impl Listing {
         Listing {
             refusal: number,
             count: 0,
+        }
+    }
+}
+
+impl FirstDepth {
+    // A refusal's number beside no depth.
+    pub fn refused(number: u32) -> FirstDepth
+        ensures { λ r. ⌜ r ≡ noFirst number ⌝ }
+    {
+        FirstDepth {
+            refusal: number,
+            depth: 0,
+            kind: 0,
+            moment: 0,
         }
     }
 }
@@ -223,6 +245,27 @@ fn moment_at(section: Section, x: u32) -> i64
     ensures { λ r. ⌜ r ≡ moment section x ⌝ }
 {
     forces::moment(section, x).amount
+}
+
+// The first listed depth alone, its kind and its moment. Or 7 to 13 with 20, or 14, and zeros.
+pub fn first(section: Section) -> FirstDepth
+    ensures { λ r. ⌜ r ≡ firstAnswer section ⌝ }
+{
+    let answer = Law::of(section);
+    if answer.refusal != 0 {
+        return FirstDepth::refused(answer.refusal);
+    }
+    let last = section.last_depth();
+    let found = next_listed(section, answer.law, 0, 0);
+    if last < found.depth {
+        return FirstDepth::refused(14);
+    }
+    FirstDepth {
+        refusal: 0,
+        depth: found.depth,
+        kind: found.kind as u32,
+        moment: moment_at(section, found.depth),
+    }
 }
 
 // Writes the list into a row that holds it.

@@ -8,7 +8,8 @@ use Rattle.section.specs.declared.Amount.{Amount}
 use Rattle.section.specs.Amount.{noAmount}
 use Rattle.forces.specs.Answers.{imbalanceAnswer, momentAnswer}
 use Rattle.depths.specs.declared.Listing.{Listing}
-use Rattle.depths.specs.Answers.{unlisted, listAnswer, rowAfter}
+use Rattle.depths.specs.declared.FirstDepth.{FirstDepth}
+use Rattle.depths.specs.Answers.{unlisted, noFirst, listAnswer, rowAfter, firstAnswer}
 use Rattle.shear.specs.Shear.{shearAnswer}
 use Rattle.record.specs.Record.{ofRecord}
 
@@ -27,6 +28,9 @@ listOf r room = ofRecord r (λ s. listAnswer s room) unlisted
 -- the row afterwards
 unfoldable pub rowOf : List ℕ → List ℤ → List ℤ
 rowOf r row = ofRecord r (λ s. rowAfter s row) (λ number. row)
+
+unfoldable pub firstDepthOf : List ℕ → FirstDepth
+firstDepthOf r = ofRecord r firstAnswer noFirst
 
 unfoldable pub shearOf : List ℕ → Amount
 shearOf r = ofRecord r shearAnswer noAmount

@@ -4,10 +4,11 @@ ghost use Rattle.class.specs.Class.{classAnswer};
 ghost use lib.ListN.{length};
 ghost use Rattle.book.specs.Book.{bookAnswer, recordAnswer};
 ghost use Rattle.writer.specs.Written.{writeAnswer, bookAfter, addAnswer, recordAfter};
-ghost use Rattle.panel.specs.Face.{drawnOf, imbalanceOf, momentOf, listOf, rowOf, shearOf};
+ghost use Rattle.panel.specs.Face.{drawnOf, imbalanceOf, momentOf, listOf, rowOf, firstDepthOf, shearOf};
 use book::BookAnswer;
 use book::RecordAnswer;
 use class::ClassAnswer;
+use depths::FirstDepth;
 use depths::Listing;
 use drawn::Drawn;
 use section::Amount;
@@ -99,6 +100,18 @@ pub extern "C" fn fw_depths(part: &[u8], row: &mut [i64]) -> Listing
         return Listing::refused(answer.refusal);
     }
     depths::depths(answer.section, row)
+}
+
+// The first listed depth of a record's section alone, its kind and its moment; or 6, 7 to 13 with 20, or 14, and zeros.
+#[no_mangle]
+pub extern "C" fn fw_first(part: &[u8]) -> FirstDepth
+    ensures { λ r. ⌜ r ≡ firstDepthOf (now (part .entry)) ⌝ }
+{
+    let answer = record::section_of(part);
+    if answer.refusal != 0 {
+        return FirstDepth::refused(answer.refusal);
+    }
+    depths::first(answer.section)
 }
 
 // The shear that a record's section resists, in mN; or 6, 7 to 13 with 20, or 16, and zero.

@@ -1,6 +1,8 @@
 //! Cases for `tests/c/held.c`, the program that calls the C face and compares. It is a process of its own since the static library is
 //! x86-64 code and these tests are code for the machine at hand.
-use crate::rules::{Amount, BookAnswer, Class, Drawn, Layer, Listed, RecordAnswer, Sums, Written};
+use crate::rules::{
+    Amount, BookAnswer, Class, Drawn, First, Layer, Listed, RecordAnswer, Sums, Written,
+};
 use std::io::{BufWriter, Write};
 use std::process::{Child, ChildStdin, Command, Stdio};
 
@@ -78,6 +80,16 @@ impl Held {
         let mut case = of_record(b'e', record);
         case.extend((imbalances.len() as u32).to_le_bytes());
         self.answers(case, imbalances);
+    }
+
+    /// That `fw_first` gives this depth.
+    pub fn first(&mut self, record: &[u8], first: First) {
+        let mut case = of_record(b'f', record);
+        for number in [first.refusal, first.depth, first.kind] {
+            case.extend(number.to_le_bytes());
+        }
+        case.extend(first.moment.to_le_bytes());
+        self.case(&case);
     }
 
     /// That `fw_shear` gives this amount.

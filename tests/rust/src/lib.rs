@@ -4,6 +4,7 @@ pub mod flange;
 pub mod fraction;
 pub mod held;
 pub mod lent;
+pub mod lists;
 pub mod random;
 pub mod rules;
 pub mod sections;

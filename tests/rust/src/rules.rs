@@ -10,8 +10,8 @@ mod shear;
 mod writer;
 
 pub use balance::{
-    amounts, area, exact, list_of, listed, rounded, rounded_by, write, Amount, Axis, List, Listed,
-    Sums,
+    amounts, area, exact, first, list_of, listed, rounded, rounded_by, write, Amount, Axis, First,
+    List, Listed, Sums,
 };
 pub use book::{
     book, lines, own_length, record, Book, BookAnswer, Bound, Lines, RecordAnswer, LINES,

@@ -1,45 +1,13 @@
 //! `fw_imbalance`, `fw_moment` and `fw_depths` held to document 01's balance.
 use fordwhistle_tests::flange::{self, Width};
 use fordwhistle_tests::held::Held;
+use fordwhistle_tests::lists::{cases, Case, ACCEPTED, DAMAGED};
 use fordwhistle_tests::random::Random;
-use fordwhistle_tests::rules::{self, Axis, Law, List, Section};
+use fordwhistle_tests::rules::{self, Axis, Law, Section};
 use fordwhistle_tests::sections;
 use fordwhistle_tests::steel;
 use std::cmp::Ordering;
 use std::collections::BTreeSet;
-use std::sync::LazyLock;
-
-/// A record with its list or its refusal, worked out once for every row and every test.
-struct Case {
-    record: Vec<u8>,
-    list: Result<List, u32>,
-}
-
-fn case(record: Vec<u8>) -> Case {
-    let list = rules::list_of(&record);
-    Case { record, list }
-}
-
-/// Many low sections and few high ones: a list takes as many stresses as the square of the height.
-static ACCEPTED: LazyLock<Vec<(Section, Case)>> = LazyLock::new(|| {
-    let mut random = Random::new(5);
-    let mut heights = vec![50; 1000];
-    heights.extend((0..2000).map(|_| random.within(51..=64) as u16));
-    heights.extend((0..60).map(|_| random.within(65..=400) as u16));
-    heights.extend([999, 1000, 1000, 1000, 1000]);
-    let section = |h| sections::balanced(&mut random, h);
-    let sections = heights.into_iter().map(section);
-    sections.map(|s| (s.clone(), case(s.record()))).collect()
-});
-
-static DAMAGED: LazyLock<Vec<Case>> = LazyLock::new(|| {
-    let mut random = Random::new(6);
-    let mut record = || {
-        let section = sections::accepted_of(&mut random, 50);
-        sections::damaged(&mut random, section)
-    };
-    (0..10_000).map(|_| case(record())).collect()
-});
 
 /// Every depth of the grid and what is next to it, and depths that are on it in their lower 16 bits alone.
 fn each_depth(mut take: impl FnMut(&[u8], u32)) {
@@ -55,8 +23,7 @@ fn each_depth(mut take: impl FnMut(&[u8], u32)) {
 
 fn each_row(mut take: impl FnMut(&Case, &[i64])) {
     let mut random = Random::new(7);
-    let accepted = ACCEPTED.iter().map(|(_, case)| case);
-    for case in accepted.chain(DAMAGED.iter()) {
+    for case in cases() {
         let words = case.list.as_ref().map_or(0, |list| 3 * list.len());
         for words in random.rooms(words) {
             let row: Vec<i64> = (0..words).map(|_| random.number() as i64).collect();

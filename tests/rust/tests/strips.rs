@@ -1,5 +1,5 @@
 //! The sums over a section's strips, as `fw_imbalance` shows them, held to a division a strip at every depth; and the
-//! signs of these sums, as `fw_depths` lists them, under loads that leave zero or next to it.
+//! signs of these sums, as `fw_depths` and `fw_first` show them, under loads that leave zero or next to it.
 use fordwhistle_tests::held::Held;
 use fordwhistle_tests::random::Random;
 use fordwhistle_tests::rules::{self, Amount, List, Section};
@@ -80,9 +80,9 @@ impl Case {
         BTreeSet::from([*flattest, random.pick(&other)])
     }
 
-    fn list(&self) -> List {
+    fn list(&self) -> Result<List, u32> {
         let moment = |x| rules::rounded(&self.section, x).moment;
-        rules::listed(&self.imbalances, moment)
+        Ok(rules::listed(&self.imbalances, moment))
     }
 
     fn amounts(&self) -> Vec<Amount> {
@@ -117,10 +117,11 @@ fn aimed() -> impl Iterator<Item = Case> {
 }
 
 /// A row with a word more than the list has, and what `fw_depths` makes of it.
-fn row(list: List) -> (Vec<i64>, rules::Listed, Vec<i64>) {
-    let before = vec![-1; 3 * list.len() + 1];
+fn row(list: &Result<List, u32>) -> (Vec<i64>, rules::Listed, Vec<i64>) {
+    let words = list.as_ref().map_or(0, |list| 3 * list.len());
+    let before = vec![-1; words + 1];
     let mut after = before.clone();
-    (before, rules::write(&Ok(list), &mut after), after)
+    (before, rules::write(list, &mut after), after)
 }
 
 #[test]
@@ -145,8 +146,10 @@ fn the_face_has_the_signs_of_sums_that_are_aimed_at_zero() {
 fn the_face_lists_the_depths_of_sections_that_are_aimed_at_zero() {
     let mut held = Held::new();
     for case in aimed() {
-        let (before, listed, after) = row(case.list());
-        held.depths(&case.section.record(), &before, listed, &after);
+        let (record, list) = (case.section.record(), case.list());
+        let (before, listed, after) = row(&list);
+        held.first(&record, rules::first(&list));
+        held.depths(&record, &before, listed, &after);
     }
     held.finish();
 }
@@ -200,7 +203,7 @@ mod linked {
     #[test]
     fn the_face_linked_lists_the_depths_of_sections_that_are_aimed_at_zero() {
         for case in aimed() {
-            let (record, (mut written, listed, after)) = (case.section.record(), row(case.list()));
+            let (record, (mut written, listed, after)) = (case.section.record(), row(&case.list()));
             let words = written.len();
             // It reads the record, writes the row and touches no other memory of the caller's.
             let answer =

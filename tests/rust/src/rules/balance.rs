@@ -31,6 +31,16 @@ pub struct Listed {
     pub count: u32,
 }
 
+/// `fw_first_depth`.
+#[repr(C)]
+#[derive(Debug, Clone, Copy, PartialEq, Eq)]
+pub struct First {
+    pub refusal: u32,
+    pub depth: u32,
+    pub kind: u32,
+    pub moment: i64,
+}
+
 /// Imbalance in mN and moment in mN half-mm.
 #[derive(Debug, Clone, Copy, PartialEq, Eq)]
 pub struct Sums<T> {
@@ -191,6 +201,21 @@ pub fn amounts(record: &[u8], x: u32) -> Sums<Amount> {
 /// The listed depths of a record's section, or the refusal.
 pub fn list_of(record: &[u8]) -> Result<List, u32> {
     Section::of(record).map(|section| list(&section))
+}
+
+/// What `fw_first` answers where this is the list.
+pub fn first(list: &Result<List, u32>) -> First {
+    let refused = |refusal| (refusal, [0; 3]);
+    let (refusal, [depth, kind, moment]) = match list {
+        Ok(list) => list.first().map_or(refused(14), |first| (0, *first)),
+        Err(refusal) => refused(*refusal),
+    };
+    First {
+        refusal,
+        depth: depth as u32,
+        kind: kind as u32,
+        moment,
+    }
 }
 
 /// What `fw_depths` answers and writes where this is the list.
