@@ -213,7 +213,8 @@ typedef struct {
  * listed depths, and count is then that number. On any refusal the whole row stays.
  * row is a pointer to as many words as said that may be read and written; none of them is part of the record. words is any number, 0 too,
  * and row may then be null: where there is a depth to list, that is refused 15 and so asks for the count alone. 3 h words hold every list
- * of a section of height h, so 3000 the list of any section. The call takes some 3 KB of stack, fw_first some 2, any other function less than 1. */
+ * of a section of height h, so 3000 the list of any section. The call takes some 3 KB of stack, fw_first some 2, any other function less
+ * than 1. */
 fw_listed fw_depths(const uint8_t *record, size_t len, int64_t *row, size_t words);
 
 /* The first depth of that list alone.
