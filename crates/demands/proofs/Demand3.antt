@@ -106,8 +106,9 @@ first-near : (s : Section) {x : FirstDepth} → x ≡ firstAnswer s → x .refus
 unfolding depthsRefusal
 first-near s is h =
     let none = sym (first-number s is) ∙ h in
+    let e = entryOf (listed s) 0 in
     let b = first-balances s (some-listed s none) in
-    let near : MomentNear s (entryOf (listed s) 0 .depth) (entryOf (listed s) 0 .moment) = rw (b .moment) (moment-is-near (none-of (sectionRefusal s) _ none .0) (b .from)) in
+    let near : MomentNear s (e .depth) (e .moment) = rw (b .moment) (moment-is-near (none-of (sectionRefusal s) _ none .0) (b .from)) in
     subst (λ (v : FirstDepth). MomentNear s (v .depth) (v .moment)) (sym (first-is s is h)) near
 
 -- ---- of a record that is handed over as bytes

@@ -15,6 +15,12 @@ use borrow.Author.Tests.{eqb-false, eq-eqb, ne-eqb}
 use Rattle.arith.specs.Sums.{sumN}
 use Rattle.depths.specs.Depths.{Entry, entryOf, entryAt, listTo, words, Rising}
 
+-- the one at a place is in it
+pub at-place : (es : List Entry) (i : ℕ) → i < length es → List·Memᴰ (entryOf es i) es
+at-place [] i h = absurd (omega arith)
+at-place (e ∷ es) zero h = List·Memᴰ·head refl
+at-place (e ∷ es) (suc i) h = List·Memᴰ·tail (at-place es i (omega arith))
+
 -- one entry more, or none, behind all others and deeper than they
 rising-next :
     (low : ℕ) (es : List Entry) (e : Entry) (t : Bool)

@@ -21,16 +21,11 @@ use Rattle.section.specs.Has.{lastDepth}
 use Rattle.depths.specs.Depths.{Entry, entryOf, kindAt, listed, words, written, Balances, NoDepth, Rising}
 use Rattle.depths.specs.Row.{wordAt, ReadAt, Shown, howMany}
 use Rattle.depths.specs.Answers.{depthsRefusal, listRefusal, listAnswer, rowAfter}
-use Rattle.depths.proofs.Listed.{count-kinds, words-length, word-of}
+use Rattle.depths.proofs.Listed.{at-place, count-kinds, words-length, word-of}
 use Rattle.depths.proofs.Answers.{list-number, list-count}
 use Rattle.depths.proofs.Theorems.{listed-exactly, listed-rising, fourteen-exactly}
 
--- ---- of any list of entries: the one at a place is in it, what is in it has a place, and where it rises the next is deeper
-at-place : (es : List Entry) (i : ℕ) → i < length es → List·Memᴰ (entryOf es i) es
-at-place [] i h = absurd (omega arith)
-at-place (e ∷ es) zero h = List·Memᴰ·head refl
-at-place (e ∷ es) (suc i) h = List·Memᴰ·tail (at-place es i (omega arith))
-
+-- ---- of any list of entries: what is in it has a place, and where it rises the next is deeper
 place-of : {e : Entry} {es : List Entry} → List·Memᴰ e es → (i : ℕ) × (i < length es) × (entryOf es i ≡ e)
 place-of (List·Memᴰ·head e) = (0, omega arith, sym e)
 place-of (List·Memᴰ·tail w) = let p = place-of w in (suc (p .0), omega arith, p .2)

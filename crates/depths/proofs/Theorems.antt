@@ -19,7 +19,7 @@ use Rattle.forces.specs.Forces.{imbalance, moment}
 use Rattle.section.specs.Has.{lastDepth}
 use Rattle.depths.specs.Depths.{Entry, entryOf, kindAt, listed, Balances, SomeDepth, NoDepth, Rising}
 use Rattle.depths.specs.Answers.{depthsRefusal, listRefusal}
-use Rattle.depths.proofs.Listed.{list-only, list-all, list-rising, list-empty, empty-list}
+use Rattle.depths.proofs.Listed.{at-place, list-only, list-all, list-rising, list-empty, empty-list}
 use Rattle.depths.proofs.Sided.{falls, rises, kind-one, kind-two}
 
 -- ---- 1. the list has exactly the depths that balance, in strictly ascending order, and is refused as empty exactly where there is none
@@ -88,16 +88,12 @@ deeper : (low : ℕ) (es : List Entry) → Rising low es → {e : Entry} → Lis
 deeper low (f ∷ es) r (List·Memᴰ·head e) = omega (arith, r .0, ap (λ v. v .depth) e)
 deeper low (f ∷ es) r (List·Memᴰ·tail w) = omega (arith, r .0, deeper (f .depth) es (r .1) w)
 
-first-in : (es : List Entry) → 0 < length es → List·Memᴰ (entryOf es 0) es
-first-in [] h = absurd (omega arith)
-first-in (e ∷ es) h = List·Memᴰ·head refl
-
 first-least : (es : List Entry) → Rising 0 es → {e : Entry} → List·Memᴰ e es → entryOf es 0 .depth ≤ e .depth
 first-least (f ∷ es) r (List·Memᴰ·head e) = omega (arith, ap (λ v. v .depth) e)
 first-least (f ∷ es) r (List·Memᴰ·tail w) = omega (arith, deeper (f .depth) es (r .1) w)
 
 pub first-balances : (s : Section) → 0 < length (listed s) → Balances s (entryOf (listed s) 0)
-first-balances s some = listed-exactly s _ .0 (first-in (listed s) some)
+first-balances s some = listed-exactly s _ .0 (at-place (listed s) 0 some)
 
 pub first-shallowest : (s : Section) → 0 < length (listed s) → (x : ℕ) → 1 ≤ x → x < entryOf (listed s) 0 .depth → kindAt s x ≡ 0
 first-shallowest s some x from to =

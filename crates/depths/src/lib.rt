@@ -1,6 +1,6 @@
 // Where the forces of a section balance: the sign of the imbalance at each depth, the list of every depth, and the first alone (document 01, 'Strains,
-// strips and balance'; document 02 [5]). A list needs no imbalance but its sign: bounds of the strips' force give it without a strip visited wherever zero does not lie between
-// them, and the rule itself where it does.
+// strips and balance'; document 02 [5]). A list needs no imbalance but its sign: bounds of the strips' force give it without a strip visited wherever
+// zero does not lie between them, and the rule itself where it does.
 ghost use mathlib.Core.Path.{_≡_};
 ghost use Prim.Native.Nat.{_+_, _*_, _-_, _≤_, _<_};
 ghost use lib.IntN.{pos, natAbs, _*ℤ_};

@@ -47,15 +47,16 @@ loop-again c =
     let next = c .next-listed2 .ensures in (
       length-set (l .kept) _ _ ∙ l .inv .0,
       omega (arith, next .on, here t .2),
-      kept-next _ (l .kept) (l .inv .2) (l .found .depth - 1) (l .found .kind) (omega (arith, l .inv .1)) (omega (arith, l .inv .0, l .inv .1, few t)) (here t .0) (here t .2) (next .on) (next .none),
+      kept-next _ (l .kept) (l .inv .2) _ _ (omega (arith, l .inv .1)) (omega (arith, l .inv .0, l .inv .1, few t)) (here t .0) (here t .2) (next .on) (next .none),
       (_, next),
     )
 
 returns : tie.Need-returns Inv-loop μ-loop
 returns c =
-    let l = c .before .before in
-    let end : l .loop .found .depth ≡ lastDepth (l .before .before .before .before .args .section) + 1 = omega (arith, c .if1 .left, l .before .before .before .last-depth .ensures, l .loop .inv .3 .1 .end) in
-    rw end at (l .loop .inv .2)
+    let l = c .before .before .loop in
+    let last = c .before .before .before .before .before in
+    let end : l .found .depth ≡ lastDepth (last .before .args .section) + 1 = omega (arith, c .if1 .left, last .last-depth .ensures, l .inv .3 .1 .end) in
+    rw end at (l .inv .2)
 
 pub kinds-spec : {M : Type 1} → statement M
 kinds-spec =

@@ -54,10 +54,14 @@ returns : tie.Need-returns Inv-loop μ-loop
 returns c =
     let a = c .before .before .before in
     let s = a .args .section in
+    let kept = a .args .kept .now in
     let l = c .before .loop in
-    let all : l .i ≡ lastDepth s = omega (arith, grid (c .before .before) .0) in
-    let kinds = sum-same (one (a .args .kept .now)) _ (lastDepth s) (λ i h. ap (λ k. cond (eqb k 0) 0 1) (kept-there s (a .args .kept .now) (a .pre .1) i (omega arith))) in
-    (l .inv .1 ∙ ap (λ n. sumN n (one (a .args .kept .now))) all ∙ kinds ∙ sym (count-kinds (kindAt s) (moment s) (lastDepth s)), omega (arith, l .inv .2, grid (c .before .before) .1))
+    let last = grid (c .before .before) in
+    let all : l .i ≡ lastDepth s = omega (arith, last .0) in
+    let kinds = sum-same (one kept) _ (lastDepth s) (λ i h. ap (λ k. cond (eqb k 0) 0 1) (kept-there s kept (a .pre .1) i (omega arith))) in (
+      l .inv .1 ∙ ap (λ n. sumN n (one kept)) all ∙ kinds ∙ sym (count-kinds (kindAt s) (moment s) (lastDepth s)),
+      omega (arith, l .inv .2, last .1),
+    )
 
 pub listed-count-spec : {M : Type 1} → statement M
 listed-count-spec =
