@@ -84,8 +84,7 @@ static section random_section(void)
 
 /* A section whose law bears as much in tension as in compression up to 3500, with bars just below mid-height, which
  * yield: while the axis is at 7/27 of a depth between theirs and h, what both bear grows alike, and the imbalance
- * hardly moves. No section is known with zero between the bounds of more of its depths. Twice the areas under the law's
- * pieces are equal; without feq3 the stress has no jump at e3, and s2 is in range for these two fck. */
+ * hardly moves. No section is known with zero between the bounds of more of its depths. */
 static section level_section(void)
 {
     section s = random_section();
@@ -93,9 +92,7 @@ static section level_section(void)
     s.m = 1;
     s.layers[0].depth = (uint16_t)(s.h / 2 + 1);
     s.layers[0].area = some(1, 2000);
-    law l = law_of(&s);
-    int64_t s2 = (l.fcd * 17000 / 3 - l.s1 * l.e1 - 100 * l.s1) / (10000 - l.e1);
-    s.feq2 = (uint16_t)((100 * s2 + 44) / 45);
+    s.feq2 = level_feq2(&s);
     s.feq3 = 0;
     return s;
 }

@@ -38,6 +38,13 @@ law law_of(const section *s)
     return l;
 }
 
+uint16_t level_feq2(const section *s)
+{
+    law l = law_of(s);
+    int64_t s2 = (l.fcd * 17000 / 3 - l.s1 * l.e1 - 100 * l.s1) / (E3 - l.e1);
+    return (uint16_t)((100 * s2 + 44) / 45);
+}
+
 axis axis_at(const section *s, int64_t x)
 {
     int64_t limit = limit_depth(s);

@@ -29,6 +29,10 @@ typedef struct {
 
 law law_of(const section *s);
 
+/* The feq2 with which the law bears as much in tension as in compression up to 3500, where feq3 is 0: twice the areas
+ * under its pieces are equal, and the stress has no jump at e3. It is in range for fck 20 and 25. */
+uint16_t level_feq2(const section *s);
+
 axis axis_at(const section *s, int64_t x);
 
 /* Of layer j. */

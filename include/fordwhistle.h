@@ -2,8 +2,8 @@
  *
  * Every function takes any input, returns, keeps nothing and calls nothing but memcpy and memset. An answer begins with its refusal: 0
  * where the call is answered, else the number of the first line below that holds of those that concern the call, and every other number of
- * the answer is then 0 (of a double, plus zero), save the count beside 15. A refused call writes nothing, and of all functions only
- * fw_write_book, fw_add_layer and fw_depths write at all, into what they are lent to be written.
+ * the answer is then 0 (of a double, plus zero), save the count beside 15 and the work beside 14 and 15. A refused call writes nothing,
+ * and of all functions only fw_write_book, fw_add_layer and fw_depths write at all, into what they are lent to be written.
  *
  *    1  book shorter than 16 bytes, longer than 65536, or not of its stated length
  *    2  book whose last four bytes are not BOOK
@@ -21,8 +21,8 @@
  *   12  bars: a layer's depth outside 1 to h-1, an area of 0, depths that do not rise strictly, or a deepest layer that does not lie
  *       below mid-height (twice its depth is not more than h)
  *   13  stirrups without spacing: Asw is not 0 and s is
- *   14  no depth to list
- *   15  row shorter than three words a listed depth; the count beside it is the number of listed depths
+ *   14  no depth to list; the work beside it is h (h + m), as every depth was looked at
+ *   15  row shorter than three words a listed depth; the count beside it is the number of listed depths, and the work is h (h + m)
  *   16  shear without bars: m is 0
  *   17  fR1 is below 1000 kPa, or fR3 is below half the step
  *   18  strain outside -10000 to 3500, or a depth that is not on the grid, 1 to h
@@ -203,14 +203,18 @@ fw_amount fw_moment(const uint8_t *record, size_t len, uint32_t x);
 /* The depths at which a section balances.
  * Depth x is listed as kind 1 if the imbalance there is zero, and as kind 2 if x < h and the imbalances at x and x + 1 have strictly
  * opposite signs. There may be several: fibre concrete softens after its first crack. All are listed, the shallowest first.
- * count: the number of listed depths. */
+ * count: the number of listed depths.
+ * work: the number of stresses that the rules take for the imbalances at the depths looked at, h strips and m layers at each. The library
+ *       computes no others for them, and mostly far fewer, since a sign is all that it needs; the number stays the same where it gets
+ *       faster. The stresses of a moment are not in it. For a list every depth is looked at: h (h + m), at most 1008000. */
 typedef struct {
-    uint32_t refusal, count;
+    uint32_t refusal, count, work;
 } fw_listed;
 
 /* Writes the listed depths of a record's section into a lent row, three words each: x, its kind, the moment at x. The words after them
- * stay. Refusal 6, then 7 to 13 with 20, then 14, and count is then 0; then 15 where words is less than 3 times the number of
- * listed depths, and count is then that number. On any refusal the whole row stays.
+ * stay. Refusal 6, then 7 to 13 with 20, and count and work are then 0; then 14, and count is 0; then 15 where words is less than 3 times
+ * the number of listed depths, and count is that number. Beside 14 and 15 work is h (h + m), as beside 0. On any refusal the whole row
+ * stays.
  * row is a pointer to as many words as said that may be read and written; none of them is part of the record. words is any number, 0 too,
  * and row may then be null: where there is a depth to list, that is refused 15 and so asks for the count alone. 3 h words hold every list
  * of a section of height h, so 3000 the list of any section. The call takes some 3 KB of stack, fw_first some 2, any other function less
@@ -220,15 +224,17 @@ fw_listed fw_depths(const uint8_t *record, size_t len, int64_t *row, size_t word
 /* The first depth of that list alone.
  * depth: x, the shallowest at which the section balances.
  * kind: its kind, 1 or 2.
+ * work: as in fw_listed, but for the depths that fw_first looks at: x (h + m) for kind 1, (x + 1) (h + m) for kind 2, h (h + m) beside
+ *       14. It is never above h (h + m), which a caller knows before the call.
  * moment: the moment at x. */
 typedef struct {
-    uint32_t refusal, depth, kind;
+    uint32_t refusal, depth, kind, work;
     int64_t moment;
 } fw_first_depth;
 
 /* The first listed depth of a record's section: the first three words that fw_depths writes, without a row. Refusal 6, then 7 to 13
- * with 20, then 14, each exactly where fw_depths is refused by it; depth, kind and moment are then 0. It is never refused 15. Writes
- * nothing.
+ * with 20, then 14, each exactly where fw_depths is refused by it; depth, kind and moment are then 0, and so is work, but beside 14. It is
+ * never refused 15. Writes nothing.
  * It looks at no depth past the one that decides, x of kind 1 and x + 1 of kind 2, and is meant for a screen that follows a knob. Whether
  * the section balances deeper too, and with which moment, only fw_depths tells. */
 fw_first_depth fw_first(const uint8_t *record, size_t len);

@@ -1,5 +1,6 @@
 /* fw_imbalance, fw_moment, fw_depths and fw_first as the panel's program calls them: the documents' figures, several depths, two layers
- * below mid-height, a flange, a zero at the first depth and at the last, rows too short, just long enough and longer, and each refusal. */
+ * below mid-height, a flange, a zero at the first depth and at the last, rows too short, just long enough and longer, each refusal, and the
+ * work of each list and first depth. */
 #include "fordwhistle.h"
 
 #include "check.h"
@@ -15,13 +16,23 @@ static const int64_t five[] = {
     21, 2, 46797731640, 22, 2, 48727901040, 24, 2, 52937492640, 29, 2, 64844811240, 31, 2, 70385160240,
 };
 
+/* A plate that is pulled just so hard that its forces balance at depth 1: no depth comes before it. */
+static const section pulled = {.b = 1000, .h = 58, .fck = 50, .fyk = 400, .load = -3378};
+
 /* What a word holds before the call: no word of a list, and another at each place. */
 static int64_t unwritten(size_t at)
 {
     return INT64_MIN + (int64_t)at;
 }
 
-/* Whether a row of so many words is answered with this, then begins with the list, and all else up to ROOM is as it was. */
+/* The stresses of so many depths: strips plus layers at each. */
+static uint32_t work_of(section s, uint32_t depths)
+{
+    return depths * ((uint32_t)s.h + s.m);
+}
+
+/* Whether a row of so many words is answered with this, then begins with the list, and all else up to ROOM is as it was. Only a section
+ * that is refused itself takes no work, any other that of every depth. */
 static int answers(section s, size_t words, uint32_t refusal, uint32_t count, const int64_t *list, size_t listed)
 {
     record r = record_of(s);
@@ -33,18 +44,22 @@ static int answers(section s, size_t words, uint32_t refusal, uint32_t count, co
     for (size_t i = 0; i < ROOM; i++)
         if (row[i] != (i < listed ? list[i] : unwritten(i)))
             return 0;
-    return answer.refusal == refusal && answer.count == count;
+    return answer.refusal == refusal && answer.count == count &&
+           answer.work == (refusal == 0 || refusal == 14 || refusal == 15 ? work_of(s, s.h) : 0);
 }
 
-/* Whether the first depth is answered with this; the words are null where it is refused. */
+/* Whether the first depth is answered with this; the words are null where it is refused. It looks at no depth past its own, but for kind 2
+ * at the next one. */
 static int is_first(section s, uint32_t refusal, const int64_t *words)
 {
     static const int64_t none[3] = {0};
     record r = record_of(s);
     fw_first_depth first = fw_first(r.bytes, r.len);
+    uint32_t looked = refusal == 14 ? s.h : words == NULL ? 0 : (uint32_t)(words[0] + words[1] - 1);
     if (words == NULL)
         words = none;
-    return first.refusal == refusal && first.depth == words[0] && first.kind == words[1] && first.moment == words[2];
+    return first.refusal == refusal && first.depth == words[0] && first.kind == words[1] && first.moment == words[2] &&
+           first.work == work_of(s, looked);
 }
 
 /* Whether it is the first three words of the list too. */
@@ -90,6 +105,16 @@ static void the_figures(void)
     CHECK(refuses_list(beam, 14));
 }
 
+static void the_figures_of_work(void)
+{
+    record zero = record_of(plate), one = record_of(beam), third = record_of(pulled);
+    CHECK(fw_first(zero.bytes, zero.len).work == 1500);
+    CHECK(fw_depths(zero.bytes, zero.len, NULL, 0).work == 10000);
+    CHECK(fw_first(one.bytes, one.len).work == 360600);
+    CHECK(fw_depths(one.bytes, one.len, NULL, 0).work == 360600);
+    CHECK(fw_first(third.bytes, third.len).work == 58);
+}
+
 static void every_depth_is_listed(void)
 {
     static const section s = {.b = 1000, .h = 120, .fck = 40, .fyk = 500, .feq2 = 20000, .feq3 = 11000, .load = -439304, .m = 1,
@@ -129,10 +154,8 @@ static void the_flange_has_its_own_width(void)
     CHECK(lists(with_flange(softening, 139, 600), ROOM, five, 5));
 }
 
-/* A plate that is pulled just so hard that its forces balance at depth 1: no depth comes before it. */
 static void the_first_depth_is_listed_as_a_zero(void)
 {
-    static const section pulled = {.b = 1000, .h = 58, .fck = 50, .fyk = 400, .load = -3378};
     static const int64_t list[] = {1, 1, -175816000};
     CHECK(lists(pulled, ROOM, list, 1));
 }
@@ -183,6 +206,7 @@ static void the_first_line_that_holds_refuses(void)
 int main(void)
 {
     the_figures();
+    the_figures_of_work();
     every_depth_is_listed();
     the_strain_takes_the_deepest_layer_and_s1_the_centroid();
     the_flange_has_its_own_width();

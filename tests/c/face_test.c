@@ -22,14 +22,14 @@ static int is_amount(fw_amount answer, uint32_t refusal, int64_t amount)
     return answer.refusal == refusal && answer.amount == amount;
 }
 
-static int is_listed(fw_listed listed, uint32_t refusal, uint32_t count)
+static int is_listed(fw_listed listed, uint32_t refusal, uint32_t count, uint32_t work)
 {
-    return listed.refusal == refusal && listed.count == count;
+    return listed.refusal == refusal && listed.count == count && listed.work == work;
 }
 
-static int is_first(fw_first_depth first, uint32_t refusal, uint32_t depth, uint32_t kind, int64_t moment)
+static int is_first(fw_first_depth first, uint32_t refusal, uint32_t depth, uint32_t kind, uint32_t work, int64_t moment)
 {
-    return first.refusal == refusal && first.depth == depth && first.kind == kind && first.moment == moment;
+    return first.refusal == refusal && first.depth == depth && first.kind == kind && first.work == work && first.moment == moment;
 }
 
 /* Whether a record to which a layer is added, lent, is refused so in this room, or becomes the longer one where the number is 0. The layer's
@@ -50,8 +50,8 @@ static int refuses(const uint8_t *bytes, size_t len, uint32_t refusal, size_t wo
     int zeros = is_drawn(fw_draw(bytes, len, 0), refusal, 0.0, 0.0) && is_drawn(fw_draw(bytes, len, INT32_MIN), refusal, 0.0, 0.0) &&
                 is_amount(fw_imbalance(bytes, len, 1), refusal, 0) && is_amount(fw_imbalance(bytes, len, 0), refusal, 0) &&
                 is_amount(fw_moment(bytes, len, 1), refusal, 0) && is_amount(fw_moment(bytes, len, 0), refusal, 0) &&
-                is_amount(fw_shear(bytes, len), refusal, 0) && is_first(fw_first(bytes, len), refusal, 0, 0, 0) &&
-                is_listed(fw_depths(bytes, len, row, words), refusal, 0);
+                is_amount(fw_shear(bytes, len), refusal, 0) && is_first(fw_first(bytes, len), refusal, 0, 0, 0, 0) &&
+                is_listed(fw_depths(bytes, len, row, words), refusal, 0, 0);
     return kept(row, unwritten, words * sizeof *row) && zeros;
 }
 
@@ -68,25 +68,26 @@ static void a_null_pointer_is_an_empty_record(void)
         CHECK(refuses(NULL, 0, 6, words));
         CHECK(refuses_lent(sample, 0, 6, words));
     }
-    CHECK(is_listed(fw_depths(NULL, 0, NULL, 0), 6, 0));
+    CHECK(is_listed(fw_depths(NULL, 0, NULL, 0), 6, 0, 0));
 }
 
 /* A row of no words, null and not. */
-static int lists_nothing(section s, uint32_t refusal, uint32_t count)
+static int lists_nothing(section s, uint32_t refusal, uint32_t count, uint32_t work)
 {
     record r = record_of(s);
     uint8_t *copy = lent(edge, r.bytes, r.len);
     int64_t *row = lent(row_edge, unwritten, 0);
-    int same = is_listed(fw_depths(copy, r.len, NULL, 0), refusal, count) && is_listed(fw_depths(copy, r.len, row, 0), refusal, count);
+    int same = is_listed(fw_depths(copy, r.len, NULL, 0), refusal, count, work) &&
+               is_listed(fw_depths(copy, r.len, row, 0), refusal, count, work);
     return kept(row, unwritten, 0) && kept(copy, r.bytes, r.len) && same;
 }
 
 static void a_null_row_has_no_words(void)
 {
     for (int i = 0; i < LINES; i++)
-        CHECK(lists_nothing(wrong_from(lines[i]), lines[i], 0));
-    CHECK(lists_nothing(beam, 14, 0));
-    CHECK(lists_nothing(plate, 15, 1));
+        CHECK(lists_nothing(wrong_from(lines[i]), lines[i], 0, 0));
+    CHECK(lists_nothing(beam, 14, 0, 360600));
+    CHECK(lists_nothing(plate, 15, 1, 10000));
 }
 
 /* The beam with so many layers, each of a depth and an area of 400 and its number, and with a flange so high. */
@@ -150,11 +151,11 @@ static void the_answers_of_a_record(void)
     CHECK(is_amount(fw_moment(copy, first.len, 14), 0, 14476473000));
     CHECK(is_amount(fw_moment(copy, first.len, 0), 18, 0));
     CHECK(is_amount(fw_moment(copy, first.len, 101), 18, 0));
-    CHECK(is_first(fw_first(copy, first.len), 0, 14, 2, 14476473000));
+    CHECK(is_first(fw_first(copy, first.len), 0, 14, 2, 1500, 14476473000));
     CHECK(is_amount(fw_shear(copy, first.len), 16, 0));
     CHECK(kept(copy, first.bytes, first.len));
     copy = lent(edge, second.bytes, second.len);
-    CHECK(is_first(fw_first(copy, second.len), 14, 0, 0, 0));
+    CHECK(is_first(fw_first(copy, second.len), 14, 0, 0, 360600, 0));
     CHECK(is_amount(fw_shear(copy, second.len), 0, 1069200000));
     CHECK(kept(copy, second.bytes, second.len));
 }
@@ -166,12 +167,12 @@ static void a_row_has_its_length(void)
     for (size_t words = 0; words <= WORDS; words++) {
         uint8_t *copy = lent(edge, first.bytes, first.len);
         int64_t *row = lent(row_edge, unwritten, words * sizeof *row);
-        CHECK(is_listed(fw_depths(copy, first.len, row, words), words < 3 ? 15 : 0, 1));
+        CHECK(is_listed(fw_depths(copy, first.len, row, words), words < 3 ? 15 : 0, 1, 10000));
         CHECK(kept(row, words < 3 ? unwritten : list, words * sizeof *row));
         CHECK(kept(copy, first.bytes, first.len));
         copy = lent(edge, second.bytes, second.len);
         row = lent(row_edge, unwritten, words * sizeof *row);
-        CHECK(is_listed(fw_depths(copy, second.len, row, words), 14, 0));
+        CHECK(is_listed(fw_depths(copy, second.len, row, words), 14, 0, 360600));
         CHECK(kept(row, unwritten, words * sizeof *row));
         CHECK(kept(copy, second.bytes, second.len));
     }

@@ -7,10 +7,10 @@
  *   'i'  fw_imbalance: len and a record likewise; x, 32 bits; refusal, 32 bits; amount, 64 bits signed
  *   'e'  fw_imbalance at every depth from 1 to x: the same, with a refusal and an amount for each
  *   'm'  fw_moment: as 'i'
- *   'f'  fw_first: len and a record likewise; refusal, depth, kind, 32 bits each; moment, 64 bits signed
+ *   'f'  fw_first: len and a record likewise; refusal, depth, kind, work, 32 bits each; moment, 64 bits signed
  *   's'  fw_shear: as 'i' without x
- *   'l'  fw_depths: len and a record likewise; words, 16 bits; the row before the call and the row after it, 64 bits a word; refusal and
- *        count, 32 bits each
+ *   'l'  fw_depths: len and a record likewise; words, 16 bits; the row before the call and the row after it, 64 bits a word; refusal,
+ *        count and work, 32 bits each
  *   'b'  fw_book: len, 32 bits; a book of len bytes; refusal, count, 32 bits each
  *   'r'  fw_record, of the book of the last 'b' with no 'w' since: number; refusal, at, len, 32 bits each
  *   'w'  fw_write_book: len, 32 bits; records of len bytes in all; room, 32 bits; room bytes before the call and room bytes after it;
@@ -97,16 +97,16 @@ static int first_held(void)
 {
     size_t len = (size_t)number(2);
     const uint8_t *record = lend(&record_lent, len);
-    uint32_t refusal = (uint32_t)number(4), depth = (uint32_t)number(4), kind = (uint32_t)number(4);
+    uint32_t refusal = (uint32_t)number(4), depth = (uint32_t)number(4), kind = (uint32_t)number(4), work = (uint32_t)number(4);
     int64_t moment = (int64_t)number(8);
     fw_first_depth first = fw_first(record, len);
-    if (first.refusal == refusal && first.depth == depth && first.kind == kind && first.moment == moment)
+    if (first.refusal == refusal && first.depth == depth && first.kind == kind && first.work == work && first.moment == moment)
         return 1;
     if (told()) {
         printf("fw_first(");
         print_start(record, len);
-        printf(", %zu) gives %u, %u, %u, %" PRId64 " and not %u, %u, %u, %" PRId64 "\n", len, first.refusal, first.depth, first.kind,
-               first.moment, refusal, depth, kind, moment);
+        printf(", %zu) gives %u, %u, %u, %u, %" PRId64 " and not %u, %u, %u, %u, %" PRId64 "\n", len, first.refusal, first.depth,
+               first.kind, first.work, first.moment, refusal, depth, kind, work, moment);
     }
     return 0;
 }
@@ -147,7 +147,16 @@ static int depths_held(void)
     size_t words = (size_t)number(2);
     int64_t *row = lend_to_write(words * sizeof *row);
     fw_listed answer = fw_depths(record, len, row, words);
-    return written_held(answer.refusal, answer.count, "fw_depths", NULL);
+    int same = written_held(answer.refusal, answer.count, "fw_depths", NULL);
+    uint32_t work = (uint32_t)number(4);
+    if (answer.work == work)
+        return same;
+    if (told()) {
+        printf("fw_depths(");
+        print_start(record, len);
+        printf(", %zu, and %zu words to write) reports work %u and not %u\n", len, words, answer.work, work);
+    }
+    return 0;
 }
 
 static int write_book_held(void)

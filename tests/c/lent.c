@@ -11,5 +11,5 @@ fw_listed fw_depths(const uint8_t *record, size_t len, int64_t *row, size_t word
         row[3 * i + 1] = 1 + i % 2;
         row[3 * i + 2] = (i + 1 < count ? count - i : 2) * INT64_C(12345678900);
     }
-    return (fw_listed){0, count};
+    return (fw_listed){.count = count};
 }

@@ -20,8 +20,9 @@ static int answers_alike(const uint8_t *part, size_t len, section s)
     fw_amount shear = fw_shear(part, len), alone_shear = fw_shear(r.bytes, r.len);
     return drawn.refusal == alone_drawn.refusal && bits_of(drawn.point.strain) == bits_of(alone_drawn.point.strain) &&
            bits_of(drawn.point.stress) == bits_of(alone_drawn.point.stress) && listed.refusal == alone_listed.refusal &&
-           listed.count == alone_listed.count && memcmp(row, alone_row, sizeof row) == 0 && first.refusal == alone_first.refusal &&
-           first.depth == alone_first.depth && first.kind == alone_first.kind && first.moment == alone_first.moment &&
+           listed.count == alone_listed.count && listed.work == alone_listed.work && memcmp(row, alone_row, sizeof row) == 0 &&
+           first.refusal == alone_first.refusal && first.depth == alone_first.depth && first.kind == alone_first.kind &&
+           first.work == alone_first.work && first.moment == alone_first.moment &&
            shear.refusal == alone_shear.refusal && shear.amount == alone_shear.amount;
 }
 

@@ -6,7 +6,7 @@ use mathlib.Core.List.{List, [], _++_}
 use native.Mathlib.Omega.{arith}
 use lib.IntN.{ℤ, pos}
 use lib.ListN.{length, replicate}
-use Rattle.arith.proofs.Answers.{of-answers}
+use Rattle.arith.proofs.Answers.{of-answer, of-answers}
 use Rattle.section.specs.declared.Layer.{Layer}
 use Rattle.section.specs.declared.Section.{Section}
 use Rattle.section.specs.declared.Added.{Added}
@@ -21,8 +21,8 @@ use Rattle.forces.specs.Answers.{gridRefusal, amountAnswer}
 use Rattle.depths.specs.declared.Listing.{Listing}
 use Rattle.depths.specs.declared.FirstDepth.{FirstDepth}
 use Rattle.depths.specs.Depths.{listed}
-use Rattle.depths.specs.Answers.{depthsRefusal, unlisted, listAnswer, rowAfter, firstAnswer}
-use Rattle.depths.proofs.Answers.{list-number, list-needed, list-none}
+use Rattle.depths.specs.Answers.{depthsRefusal, wholeWork, unlisted, noDepth, noFirst, listAnswer, rowAfter, firstAnswer}
+use Rattle.depths.proofs.Answers.{list-number, list-needed, list-none, first-number}
 use Rattle.depths.proofs.Shown.{row-kept}
 use Rattle.shear.specs.Shear.{shearRefusal, shearAnswer}
 use Rattle.book.specs.declared.BookAnswer.{BookAnswer}
@@ -39,12 +39,13 @@ use Rattle.class.specs.declared.ClassAnswer.{ClassAnswer}
 use Rattle.class.specs.Class.{classRefusal, classAnswer}
 use Rattle.panel.specs.Face.{drawnOf, imbalanceOf, momentOf, listOf, rowOf, firstDepthOf, shearOf}
 use Rattle.demands.specs.Table.{First, bookLines, askedLines, loneLines, sectionLines, layerLines, filedLines, writeLines, addLines, firstLines, depthsLines, shearLines, classLines, strainLines, gridLines}
-use Rattle.demands.specs.Demand1.{Refuses, RefusesList, NoFirst, RefusesBytes, Demand1}
+use Rattle.demands.specs.Demand1.{ByTable, Refuses, RefusesList, NoFirst, RefusesFirst, RefusesBytes, Demand1}
 use Rattle.demands.proofs.Free.{free}
 use Rattle.demands.proofs.Shapes.{sections, laws, points, amounts, listings, firsts, books, places, records, filings, writings, classes, alone, of-record}
-use Rattle.demands.proofs.Table.{exactly, first-other, book-first, asked-first, lone-first, section-first, layer-first, depth-first, list-first}
+use Rattle.demands.proofs.Table.{exactly, never, book-first, asked-first, lone-first, section-first, layer-first, depth-first, list-first}
 use Rattle.demands.proofs.Table.{filed-first, add-first, write-first, write-lacks}
-use Rattle.demands.proofs.Table.{shear-first, class-first, strain-first, grid-first, not-fifteen}
+use Rattle.demands.proofs.Table.{shear-first, class-first, strain-first, grid-first}
+use Rattle.demands.proofs.Work.{first-took, face-took, list-took, face-list-took, first-beside, list-beside}
 
 -- ---- each answer
 module _ (s : Section) where
@@ -63,10 +64,6 @@ module _ (s : Section) where
   amount-refuses : (d : ℕ) (z : ℤ) {x : Amount} → x ≡ amountAnswer s d z → Refuses (gridLines s d) (x .refusal) (x .amount ≡ pos 0)
   unfolding amountAnswer
   amount-refuses d z = alone amounts (gridLines s d) (gridRefusal s d) _ refl (grid-first s d) refl
-
-  first-refuses : {x : FirstDepth} → x ≡ firstAnswer s → Refuses (firstLines s) (x .refusal) (NoFirst x)
-  unfolding firstAnswer
-  first-refuses = alone firsts (firstLines s) (depthsRefusal s) _ refl (depth-first s) refl
 
   shear-refuses : {x : Amount} → x ≡ shearAnswer s → Refuses (shearLines s) (x .refusal) (x .amount ≡ pos 0)
   unfolding shearAnswer
@@ -125,13 +122,35 @@ part-refused s i =
     let t = exactly (askedLines s i) (askedRefusal s i) (asked-first s i) 0 in
     Iff·trans (empty-exactly s i) (λ h f. h (t .1 f), λ h e. h (t .0 e))
 
+-- ---- the first depth
+module _ (s : Section) {x : FirstDepth} (is : x ≡ firstAnswer s) where
+  no-first : (x .refusal ≡ 0 → ⊥) → NoFirst x
+  unfolding firstAnswer
+  no-first =
+      let P : FirstDepth → Type 0 = λ v. (v .refusal ≡ 0 → ⊥) → NoFirst v in
+      rw is
+      (of-answer P (sectionRefusal s) _ noFirst
+      (λ ok. of-answer P (depthsRefusal s) _ (noDepth (wholeWork s)) (λ e h. absurd (h refl)) (λ f h. (refl, refl, refl))) (λ f h. (refl, refl, refl)))
+
+  first-refuses : RefusesFirst (firstLines s) s x
+  first-refuses =
+      let number : ByTable (firstLines s) (x .refusal) = rw (first-number s is) (exactly _ _ (depth-first s)) in
+      record { refuses = record { number = number; beside = no-first }; work = first-beside s (firstLines s) refl number (first-took s is) }
+
+first-of : (r : List ℕ) {x : FirstDepth} → x ≡ firstDepthOf r → RefusesFirst (loneLines r ++ firstLines (sectionIn r)) (sectionIn r) x
+unfolding firstDepthOf
+first-of r is =
+    let refuses = of-record firsts r _ _ (first-refuses (sectionIn r) refl .refuses) is in
+    record { refuses = refuses; work = first-beside (sectionIn r) _ refl (refuses .number) (face-took r is) }
+
 -- ---- the list
 list-refuses :
     (s : Section) (before : List ℤ) {x : Listing} {after : List ℤ} → x ≡ listAnswer s (length before) → after ≡ rowAfter s before
     → RefusesList (depthsLines s (length before)) s before x after
 list-refuses s before is left = record {
   refuses = record { number = rw (list-number s (length before) is) (exactly _ _ (list-first s (length before))); beside = list-none s (length before) is };
-  needed = list-needed s (length before) is (not-fifteen s);
+  needed = list-needed s (length before) is (never 15 (sectionLines s) (omega arith) refl (section-first s));
+  work = list-beside s (list-took s (length before) is);
   row = row-kept s before is left;
 }
 
@@ -146,12 +165,18 @@ module _ (r : List ℕ) (before : List ℤ) where
   unfolding listOf rowOf
   list-of is left =
       let rest = of-answers (λ (v : Listing) w. (v .refusal ≡ 15 → v .count ≡ length (listed (sectionIn r))) × ((v .refusal ≡ 0 → ⊥) → w ≡ before))
-      (recordRefusal r) _ _ unlisted (λ k. before) (λ e. (inner .needed, inner .row))
-      (λ h. (λ e. absurd (omega (arith, first-other 15 (loneLines r) refl (rw e at (lone-first r)))), λ k. refl)) in
-      rw left (record { refuses = of-record listings r _ _ (inner .refuses) is; needed = rw (← is) at (rest .0); row = rw (← is) at (rest .1) })
+      (recordRefusal r) (listAnswer (sectionIn r) (length before)) _ unlisted (λ k. before) (λ e. (inner .needed, inner .row))
+      (λ h. (λ e. absurd (never 15 (loneLines r) (omega arith) refl (lone-first r) e), λ k. refl)) in
+      rw left
+      (record {
+        refuses = of-record listings r _ _ (inner .refuses) is;
+        needed = rw (← is) at (rest .0);
+        work = list-beside (sectionIn r) (face-list-took r (length before) is);
+        row = rw (← is) at (rest .1);
+      })
 
 pub demand1 : Demand1
-unfolding drawnOf imbalanceOf momentOf firstDepthOf shearOf asWritten
+unfolding drawnOf imbalanceOf momentOf shearOf asWritten
 demand1 = record {
   free = free;
   section-refusal = λ κs a x e p. rw p (exactly _ _ (section-first (a .0)));
@@ -174,8 +199,8 @@ demand1 = record {
   class = λ κs a x e p. class-refuses (a .0) (a .1 .0) p;
   drawn-refused = λ κs a x e p. rw p (refl, refl);
   amount-refused = λ κs a x e p. rw p (refl, refl);
-  listing-refused = λ κs a x e p. rw p (refl, refl);
-  first-refused = λ κs a x e p. rw p (refl, (refl, refl, refl));
+  listing-refused = λ κs a x e p. rw p (refl, refl, refl);
+  first-refused = λ κs a x e p. rw p (refl, (refl, refl, refl), refl);
   fw-book = λ κs a x e p. book-refuses (a .0 .now) p;
   fw-record = λ κs a x e p. place-refuses (a .0 .now) (a .1 .0) p;
   fw-write-book = λ κs a x e p. write-refuses (a .0 .now) (a .1 .0 .now) (p .0) (p .1);
@@ -185,6 +210,6 @@ demand1 = record {
   fw-imbalance = λ κs a x e p. of-record amounts (a .0 .now) _ _ (amount-refuses (sectionIn (a .0 .now)) (a .1 .0) _ refl) p;
   fw-moment = λ κs a x e p. of-record amounts (a .0 .now) _ _ (amount-refuses (sectionIn (a .0 .now)) (a .1 .0) _ refl) p;
   fw-depths = λ κs a x e p. list-of (a .0 .now) (a .1 .0 .now) (p .0) (p .1);
-  fw-first = λ κs a x e p. of-record firsts (a .0 .now) _ _ (first-refuses (sectionIn (a .0 .now)) refl) p;
+  fw-first = λ κs a x e p. first-of (a .0 .now) p;
   fw-shear = λ κs a x e p. of-record amounts (a .0 .now) _ _ (shear-refuses (sectionIn (a .0 .now)) refl) p;
 }

@@ -9,6 +9,7 @@ use Rattle.arith.specs.Sums.{sumZ, after}
 use Rattle.arith.specs.Joined.{over}
 use Rattle.arith.proofs.Tests.{is-most}
 use Rattle.arith.proofs.Joined.{over-front}
+use Rattle.arith.proofs.Answers.{granted}
 use Rattle.section.specs.declared.Layer.{Layer}
 use Rattle.section.specs.declared.Section.{Section}
 use Rattle.section.specs.declared.Added.{Added}
@@ -39,8 +40,8 @@ use Rattle.section.specs.Amount.{answered}
 use Rattle.forces.proofs.Answers.{amount-is}
 use Rattle.depths.specs.declared.Listing.{Listing}
 use Rattle.depths.specs.declared.FirstDepth.{FirstDepth}
-use Rattle.depths.specs.Answers.{depthsRefusal, listAnswer, rowAfter, firstAnswer}
-use Rattle.depths.proofs.Answers.{list-number, list-count, row-written}
+use Rattle.depths.specs.Answers.{depthsRefusal, wholeWork, noDepth, listAnswer, rowAfter, firstAnswer}
+use Rattle.depths.proofs.Answers.{list-number, list-count, list-work, row-written}
 use Rattle.shear.specs.Shear.{resistance, shearRefusal, shearAnswer}
 use Rattle.shear.proofs.Theorems.{square-root, cube-root, axial-floor}
 use Rattle.book.specs.declared.BookAnswer.{BookAnswer}
@@ -100,11 +101,11 @@ module _ (s : Section) where
   list-is before is left h =
       let none = sym (list-number s (length before) is) ∙ h in
       let ok = grants listings (sectionRefusal s) _ is h .0 in
-      (list-count s (length before) is ok, left ∙ row-written s before none)
+      (list-count s (length before) is ok, list-work s (length before) is ok, left ∙ row-written s before none)
 
   pub first-is : {x : FirstDepth} → x ≡ firstAnswer s → x .refusal ≡ 0 → FirstIs s x
   unfolding firstAnswer
-  first-is is h = grants firsts (depthsRefusal s) _ is h .1
+  first-is is h = granted (λ (x : FirstDepth). x .refusal) (depthsRefusal s) _ (noDepth (wholeWork s)) refl (grants firsts (sectionRefusal s) _ is h .1) h .1
 
 module _ (s : List ℕ) where
   book-is : {x : BookAnswer} → x ≡ bookAnswer s → x .refusal ≡ 0 → x .count ≡ countOf s

@@ -1,5 +1,6 @@
 pub mod Table
 pub mod Shapes
+pub mod Work
 pub mod Free
 pub mod Demand1
 pub mod Demand2
@@ -13,3 +14,4 @@ pub mod Request3
 pub mod Plain
 pub mod Request4
 pub mod Request5
+pub mod Request6

@@ -33,7 +33,7 @@ use Rattle.drawn.specs.Drawn as Drawn
 use Rattle.forces.specs.Forces.{stripStress, lever, stripForce, barForce, stripMoment, barMoment, forces, moments, imbalance, moment}
 use Rattle.forces.specs.Answers.{gridRefusal, amountAnswer, imbalanceAnswer, momentAnswer}
 use Rattle.depths.specs.Depths.{entryOf, kindOf, kindAt, listTo, listed, written}
-use Rattle.depths.specs.Answers.{depthsRefusal, listRefusal, unlisted, noFirst, listAnswer, rowAfter, firstOfList, firstAnswer}
+use Rattle.depths.specs.Answers.{depthsRefusal, listRefusal, wholeWork, unlisted, noDepth, noFirst, lookedAtAll, listAnswer, rowAfter, firstOfList, firstAnswer}
 use Rattle.shear.specs.Shear.{kOf, cOf, atLeastZero, axialShare, concreteShare, kfOf, fibreShare, stirrups, struts, resistanceUnder, resistance, shearRefusal, shearAnswer}
 use Rattle.shear.proofs.Flange.{kf-without, kf-level}
 use Rattle.record.specs.Record.{recordSize}
@@ -151,7 +151,7 @@ module _ {s : Section} (p : Plain s) where
 
   pub first-alike : firstAnswer s ≡ firstAnswer (rectangle s)
   unfolding firstAnswer
-  first-alike = λ j. unlessRefused (none-alike j) (firstOfList (entryOf (list-same j) 0)) noFirst
+  first-alike = λ j. unlessRefused (p .right j) (unlessRefused (none-alike j) (firstOfList s (entryOf (list-same j) 0)) (noDepth (wholeWork s))) noFirst
 
   number-alike : (room : ℕ) → listRefusal s room ≡ listRefusal (rectangle s) room
   unfolding listRefusal
@@ -159,7 +159,7 @@ module _ {s : Section} (p : Plain s) where
 
   pub list-alike : (room : ℕ) → listAnswer s room ≡ listAnswer (rectangle s) room
   unfolding listAnswer
-  list-alike room = λ j. unlessRefused (p .right j) (record { refusal = number-alike room j; count = length (list-same j) }) unlisted
+  list-alike room = λ j. unlessRefused (p .right j) (lookedAtAll s (number-alike room j) (length (list-same j))) unlisted
 
   pub row-alike : (row : List ℤ) → rowAfter s row ≡ rowAfter (rectangle s) row
   unfolding rowAfter

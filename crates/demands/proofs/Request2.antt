@@ -77,8 +77,8 @@ module _ {s : Section} (o : OneSteel s) where
     λ h. left ∙ row-written s before (sym (list-number s (length before) is) ∙ h) ∙ ap (λ es. written es before) same-list,
   )
 
-  first-kept : {x : FirstDepth} → x ≡ firstAnswer s → x .refusal ≡ 0 → x ≡ firstOfList (entryOf (listedUnder (deepestLaw s) s) 0)
-  first-kept is h = first-is s is h ∙ ap (λ es. firstOfList (entryOf es 0)) same-list
+  first-kept : {x : FirstDepth} → x ≡ firstAnswer s → x .refusal ≡ 0 → x ≡ firstOfList s (entryOf (listedUnder (deepestLaw s) s) 0)
+  first-kept is h = first-is s is h ∙ ap (λ es. firstOfList s (entryOf es 0)) same-list
 
 list-of :
     (r : List ℕ) (before : List ℤ) {x : Listing} {after : List ℤ} → x ≡ listOf r (length before) → after ≡ rowOf r before

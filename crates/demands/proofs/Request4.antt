@@ -65,10 +65,10 @@ module _ {s : Section} (p : Plain s) where
   moment-before d is h = amount-is s d _ is h ∙ moment-plain p d
 
   list-before : (before : List ℤ) (x : Listing) {after : List ℤ} → ListIs s before x after → ListBefore s before x after
-  list-before before x is = let same = list-plain p in (is .0 ∙ ap length same, is .1 ∙ ap (λ es. written es before) same)
+  list-before before x is = let same = list-plain p in (is .0 ∙ ap length same, is .2 ∙ ap (λ es. written es before) same)
 
-  first-before : {x : FirstDepth} → x ≡ firstAnswer s → x .refusal ≡ 0 → x ≡ firstOfList (entryOf (plainList s) 0)
-  first-before is h = first-is s is h ∙ ap (λ es. firstOfList (entryOf es 0)) (list-plain p)
+  first-before : {x : FirstDepth} → x ≡ firstAnswer s → x .refusal ≡ 0 → x ≡ firstOfList s (entryOf (plainList s) 0)
+  first-before is h = first-is s is h ∙ ap (λ es. firstOfList s (entryOf es 0)) (list-plain p)
 
   shear-before : {x : Amount} → x ≡ shearAnswer s → x .refusal ≡ 0 → x .amount ≡ pos (plainShear s)
   shear-before is h = shear-is s is h ∙ ap pos (shear-plain p)

@@ -24,7 +24,7 @@ use Rattle.forces.specs.Forces.{strainScale, stripForce, stripMoment, forces, m
 use Rattle.depths.specs.declared.Listing.{Listing}
 use Rattle.depths.specs.declared.FirstDepth.{FirstDepth}
 use Rattle.depths.specs.Depths.{kindAt, listed}
-use Rattle.depths.specs.Answers.{listRefusal, listAnswer, rowAfter, firstAnswer}
+use Rattle.depths.specs.Answers.{listRefusal, workTo, lastLooked, listAnswer, rowAfter, firstAnswer}
 use Rattle.depths.specs.Code.{NoneTo}
 use Rattle.depths.proofs.Answers.{first-at, list-number, some-listed, first-number, row-written}
 use Rattle.depths.proofs.Theorems.{first-balances, first-shallowest}
@@ -34,7 +34,7 @@ use Rattle.panel.specs.Face.{listOf, rowOf, firstDepthOf}
 use Rattle.demands.specs.Table.{firstLines, loneLines}
 use Rattle.demands.specs.Request5.{Heads, Shallowest, plain, Gives, FirstFigures, Request5}
 use Rattle.demands.proofs.Shapes.{firsts, grants}
-use Rattle.demands.proofs.Table.{first-other, lone-first, depth-first}
+use Rattle.demands.proofs.Table.{never, lone-first, depth-first}
 use Rattle.demands.proofs.Demand2.{first-is}
 
 -- ---- 15 behind another number
@@ -48,7 +48,7 @@ behind (suc n) m t never e =
 -- ---- of a section
 module _ (s : Section) {x : FirstDepth} (is : x ≡ firstAnswer s) where
   not-short : x .refusal ≡ 15 → ⊥
-  not-short e = omega (arith, first-other 15 (firstLines s) refl (rw (sym (first-number s is) ∙ e) at (depth-first s)))
+  not-short e = never 15 (firstLines s) (omega arith) refl (depth-first s) (sym (first-number s is) ∙ e)
 
   heads : (before : List ℤ) {y : Listing} {after : List ℤ} → y ≡ listAnswer s (length before) → after ≡ rowAfter s before → Heads x y after
   unfolding listRefusal
@@ -80,7 +80,7 @@ module _ (r : List ℕ) {x : FirstDepth} (is : x ≡ firstDepthOf r) where
       ⊎-elim (λ ok. heads (sectionIn r) (rw ok at is) before (rw ok at js) (rw ok at left))
       (λ some.
       let bad = ne-eqb (recordRefusal r) 0 (λ z. omega arith) in
-      let other : recordRefusal r ≡ 15 → ⊥ = λ e. omega (arith, first-other 15 (loneLines r) refl (rw e at (lone-first r))) in
+      let other : recordRefusal r ≡ 15 → ⊥ = never 15 (loneLines r) (omega arith) refl (lone-first r) in
       rw (rw bad at is, rw bad at js)
       (record { number = λ h. refl; short = λ e. absurd (other e); none = (λ e. e, λ e. e); never = other; words = λ z. absurd (omega arith) }))
       (NatL.eq-zero-or-pos (recordRefusal r))
@@ -97,15 +97,15 @@ none-to s n e x from to =
     rw here at none
 
 gives :
-    (s : Section) (n k : ℕ) (z : ℤ) → sectionRefusal s ≡ 0 → n < lastDepth s → sumN n (λ i. kindAt s (i + 1)) ≡ 0 → k ≡ kindAt s (n + 1) → 0 < k → z ≡ moment s (n + 1)
-    → Gives s (n + 1) k z
-gives s n k z ok inside none kind some is κs a x e p t = p ∙ ap firstAnswer t ∙ sym (first-at s ok (omega arith) (omega arith) kind some (none-to s n none) is)
+    (s : Section) (n k w : ℕ) (z : ℤ) → sectionRefusal s ≡ 0 → n < lastDepth s → sumN n (λ i. kindAt s (i + 1)) ≡ 0 → k ≡ kindAt s (n + 1) → 0 < k
+    → w ≡ workTo s (lastLooked (n + 1) k) → z ≡ moment s (n + 1) → Gives s (n + 1) k w z
+gives s n k w z ok inside none kind some took is κs a x e p t = p ∙ ap firstAnswer t ∙ sym (first-at s ok (omega arith) (omega arith) kind some (none-to s n none) took is)
 
 figures : FirstFigures
 unfolding sectionRefusal layersRight rise layersFrom midRight kindAt imbalance moment forces moments stripForce stripMoment strainScale strip rounded size compressed stretched lawBy s1Of e1Of modulus flexural edition effectiveDepth limitDepth sumN sumZ
 figures = (
-  gives (plain 1000 100 30 500 3700 4500 (pos 0)) 13 2 (pos 14476473000) refl (omega arith) refl refl (omega arith) refl,
-  gives (plain 1000 58 50 400 0 0 (negℤ (pos 3378))) 0 1 (negℤ (pos 175816000)) refl (omega arith) refl refl (omega arith) refl,
+  gives (plain 1000 100 30 500 3700 4500 (pos 0)) 13 2 1500 (pos 14476473000) refl (omega arith) refl refl (omega arith) refl refl,
+  gives (plain 1000 58 50 400 0 0 (negℤ (pos 3378))) 0 1 58 (negℤ (pos 175816000)) refl (omega arith) refl refl (omega arith) refl refl,
 )
 
 pub request5 : Request5

@@ -1,5 +1,5 @@
 -- The refusals of the crates below by the table: each is the number of the first line that holds. Assumes nothing.
-use Prim.Native.Nat.{ℕ, zero, suc, _+_, _*_}
+use Prim.Native.Nat.{ℕ, zero, suc, _+_, _*_, _<_}
 use mathlib.Core.Path.{_≡_, refl, sym, _∙_}
 use mathlib.Core.Bool.{Bool, true, false, not, _&&_, false≢true}
 use mathlib.Core.Logic.{inl, inr}
@@ -68,11 +68,14 @@ other k l ls t =
     let a = both (not (eqb k (l .number))) (lacks k ls) t in
     (eqb-false k (l .number) (not-true _ (a .0)), a .1)
 
-pub first-other : (k : ℕ) (ls : List Line) → lacks k ls ≡ true → First ls k → k ≡ 0
+first-other : (k : ℕ) (ls : List Line) → lacks k ls ≡ true → First ls k → k ≡ 0
 unfolding First
 first-other k [] t f = f
 first-other k (l ∷ ls) t (inl f) = absurd (other k l ls t .0 (f .1))
 first-other k (l ∷ ls) t (inr f) = first-other k ls (other k l ls t .1) (f .1)
+
+pub never : (k : ℕ) (ls : List Line) → 0 < k → lacks k ls ≡ true → {n : ℕ} → First ls n → n ≡ k → ⊥
+never k ls some t f e = omega (arith, first-other k ls t (rw e at f))
 
 -- a line that does not hold may be left out
 pub without-line : (before ls : List Line) (l : Line) (k : ℕ) → l .asks → First (before ++ l ∷ ls) k → First (before ++ ls) k
@@ -181,7 +184,3 @@ strain-first s e = after-section s _ _ (line-first 18 _ _ (drawable-is e) no-lin
 pub grid-first : (s : Section) (x : ℕ) → First (gridLines s x) (gridRefusal s x)
 unfolding gridRefusal
 grid-first s x = after-section s _ _ (line-first 18 _ _ (between 1 (lastDepth s) x) no-line)
-
--- no section is refused by 15
-pub not-fifteen : (s : Section) → sectionRefusal s ≡ 15 → ⊥
-not-fifteen s e = omega (arith, first-other 15 (sectionLines s) refl (rw e at (section-first s)))

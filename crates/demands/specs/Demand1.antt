@@ -1,11 +1,11 @@
 -- Demand 1: every call returns on every input and expects nothing of its caller; what is bad is refused by number, and a refusal hands back zeros and
--- writes nothing into what was lent.
+-- writes nothing into what was lent. Beside zeros document 01 hands back the count under 15, and document 02 [6] the work under 14 and 15.
 --
 -- That a call returns is what 'proved' means of a function in this language: a proof is of total correctness, so that every loop has a measure and no
 -- operation can fail. Bytes that are lent can't be written, by their type. The rest is said here.
 use Prim.Native.Nat.{ℕ}
 use mathlib.Core.Path.{_≡_}
-use mathlib.Core.Logic.{_↔_}
+use mathlib.Core.Logic.{_⊎_, _↔_}
 use mathlib.Core.List.{List, [], _++_}
 use lib.IntN.{ℤ, pos}
 use lib.ListN.{length, replicate}
@@ -15,6 +15,7 @@ use Rattle.drawn.specs.Drawn.{noPoint}
 use Rattle.depths.specs.declared.Listing.{Listing}
 use Rattle.depths.specs.declared.FirstDepth.{FirstDepth}
 use Rattle.depths.specs.Depths.{listed}
+use Rattle.depths.specs.Answers.{wholeWork}
 use Rattle.record.specs.Record.{noSection, sectionIn}
 use Rattle.writer.specs.declared.Written.{Written}
 use Rattle.demands.specs.Free.{Free}
@@ -30,15 +31,25 @@ pub record Refuses (lines : List Line) (refusal : ℕ) (zeros : Type 0) : Type 0
   pub number : ByTable lines refusal
   pub beside : (refusal ≡ 0 → ⊥) → zeros
 
+-- beside 14 and 15, which are of a section that is not refused itself, the work of the whole grid; beside any other refusal none
+pub record WorkBeside (s : Section) (refusal work : ℕ) : Type 0 where
+  pub whole : (refusal ≡ 14) ⊎ (refusal ≡ 15) → work ≡ wholeWork s
+  pub none : (refusal ≡ 0 → ⊥) → (refusal ≡ 14 → ⊥) → (refusal ≡ 15 → ⊥) → work ≡ 0
+
 -- beside that of a list no count, but under 15 the number of listed depths; and the row is as it was
 pub record RefusesList (lines : List Line) (s : Section) (before : List ℤ) (x : Listing) (after : List ℤ) : Type 0 where
   pub refuses : Refuses lines (x .refusal) ((x .refusal ≡ 15 → ⊥) → x .count ≡ 0)
   pub needed : x .refusal ≡ 15 → x .count ≡ length (listed s)
+  pub work : WorkBeside s (x .refusal) (x .work)
   pub row : (x .refusal ≡ 0 → ⊥) → after ≡ before
 
 -- beside that of a first depth none, no kind and no moment
 abbrev pub NoFirst : FirstDepth → Type 0
 NoFirst x = (x .depth ≡ 0) × (x .kind ≡ 0) × (x .moment ≡ pos 0)
+
+pub record RefusesFirst (lines : List Line) (s : Section) (x : FirstDepth) : Type 0 where
+  pub refuses : Refuses lines (x .refusal) (NoFirst x)
+  pub work : WorkBeside s (x .refusal) (x .work)
 
 -- beside that of a book or a record that is written no length; and the lent bytes are as they were
 pub record RefusesBytes (lines : List Line) (before : List ℕ) (x : Written) (after : List ℕ) : Type 0 where
@@ -57,7 +68,7 @@ pub record Demand1 : Type 0 where
   pub imbalance : Every.imbalance (λ s d x. Refuses (gridLines s d) (x .refusal) (x .amount ≡ pos 0))
   pub moment : Every.moment (λ s d x. Refuses (gridLines s d) (x .refusal) (x .amount ≡ pos 0))
   pub depths : Every.depths (λ s before x after. RefusesList (depthsLines s (length before)) s before x after)
-  pub first : Every.first (λ s x. Refuses (firstLines s) (x .refusal) (NoFirst x))
+  pub first : Every.first (λ s x. RefusesFirst (firstLines s) s x)
   pub shear : Every.shear (λ s x. Refuses (shearLines s) (x .refusal) (x .amount ≡ pos 0))
   -- a book, and a record of it: 1 to 5; the part is empty exactly where one of them holds
   pub book : Every.book (λ bytes x. Refuses (bookLines bytes) (x .refusal) (x .count ≡ 0))
@@ -76,8 +87,8 @@ pub record Demand1 : Type 0 where
   -- a refusal that is handed on: its number, and zeros
   pub drawn-refused : Every.drawn-refused (λ number x. (x .refusal ≡ number) × (x .point ≡ noPoint))
   pub amount-refused : Every.amount-refused (λ number x. (x .refusal ≡ number) × (x .amount ≡ pos 0))
-  pub listing-refused : Every.listing-refused (λ number x. (x .refusal ≡ number) × (x .count ≡ 0))
-  pub first-refused : Every.first-refused (λ number x. (x .refusal ≡ number) × NoFirst x)
+  pub listing-refused : Every.listing-refused (λ number x. (x .refusal ≡ number) × (x .count ≡ 0) × (x .work ≡ 0))
+  pub first-refused : Every.first-refused (λ number x. (x .refusal ≡ number) × NoFirst x × (x .work ≡ 0))
   -- the C face: the same; of a record that is handed over as bytes 6 first
   pub fw-book : Every.fw-book (λ bytes x. Refuses (bookLines bytes) (x .refusal) (x .count ≡ 0))
   pub fw-record : Every.fw-record (λ bytes i x. Refuses (askedLines bytes i) (x .refusal) ((x .at ≡ 0) × (x .len ≡ 0)))
@@ -88,5 +99,5 @@ pub record Demand1 : Type 0 where
   pub fw-imbalance : Every.fw-imbalance (λ part d x. Refuses (loneLines part ++ gridLines (sectionIn part) d) (x .refusal) (x .amount ≡ pos 0))
   pub fw-moment : Every.fw-moment (λ part d x. Refuses (loneLines part ++ gridLines (sectionIn part) d) (x .refusal) (x .amount ≡ pos 0))
   pub fw-depths : Every.fw-depths (λ part before x after. RefusesList (loneLines part ++ depthsLines (sectionIn part) (length before)) (sectionIn part) before x after)
-  pub fw-first : Every.fw-first (λ part x. Refuses (loneLines part ++ firstLines (sectionIn part)) (x .refusal) (NoFirst x))
+  pub fw-first : Every.fw-first (λ part x. RefusesFirst (loneLines part ++ firstLines (sectionIn part)) (sectionIn part) x)
   pub fw-shear : Every.fw-shear (λ part x. Refuses (loneLines part ++ shearLines (sectionIn part)) (x .refusal) (x .amount ≡ pos 0))

@@ -33,7 +33,7 @@ use Rattle.forces.specs.Forces.{strainScale, barAt, imbalance, moment}
 use Rattle.depths.specs.declared.Listing.{Listing}
 use Rattle.depths.specs.declared.FirstDepth.{FirstDepth}
 use Rattle.depths.specs.Depths.{entryOf, listed, written}
-use Rattle.depths.specs.Answers.{firstOfList}
+use Rattle.depths.specs.Answers.{wholeWork, firstOfList}
 use Rattle.shear.specs.Shear.{squared, cubed, axialShare, resistance}
 use Rattle.book.specs.declared.RecordAnswer.{RecordAnswer}
 use Rattle.record.specs.Record.{Bytes, le32At, recordSize, layersAt, sizeAt, sectionIn}
@@ -66,13 +66,13 @@ ClassIs fr1 fr3 x = (x .step ≡ stepOf fr1) × (x .letter ≡ letterOf (stepOf 
 abbrev pub PointIs : Section → ℤ → Drawn → Type 0
 PointIs s e x = (x .point ≡ pointAt (lawOf s) e) × PointNear (lawOf s) e (x .point)
 
--- the list's words, then the row's own
+-- the list's words, then the row's own; the work of the whole grid
 abbrev pub ListIs : Section → List ℤ → Listing → List ℤ → Type 0
-ListIs s before x after = (x .count ≡ length (listed s)) × (after ≡ written (listed s) before)
+ListIs s before x after = (x .count ≡ length (listed s)) × (x .work ≡ wholeWork s) × (after ≡ written (listed s) before)
 
--- the list's first entry
+-- the list's first entry, with the work as far as the depth that decides
 abbrev pub FirstIs : Section → FirstDepth → Type 0
-FirstIs s x = x ≡ firstOfList (entryOf (listed s) 0)
+FirstIs s x = x ≡ firstOfList s (entryOf (listed s) 0)
 
 -- the record's place, inside the book; what lies there shows the record
 abbrev pub PlaceIs : List ℕ → ℕ → RecordAnswer → Type 0

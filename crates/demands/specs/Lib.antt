@@ -13,3 +13,4 @@ pub mod Request2
 pub mod Request3
 pub mod Request4
 pub mod Request5
+pub mod Request6

@@ -158,12 +158,12 @@ pub record Request4 : Type 0 where
   pub imbalance-before : Every.imbalance (λ s d x. Flat s → x .refusal ≡ 0 → x .amount ≡ plainImbalance s d)
   pub moment-before : Every.moment (λ s d x. Flat s → x .refusal ≡ 0 → x .amount ≡ plainMoment s d)
   pub depths-before : Every.depths (λ s before x after. Flat s → x .refusal ≡ 0 → ListBefore s before x after)
-  pub first-before : Every.first (λ s x. Flat s → x .refusal ≡ 0 → x ≡ firstOfList (entryOf (plainList s) 0))
+  pub first-before : Every.first (λ s x. Flat s → x .refusal ≡ 0 → x ≡ firstOfList s (entryOf (plainList s) 0))
   pub shear-before : Every.shear (λ s x. Flat s → x .refusal ≡ 0 → x .amount ≡ pos (plainShear s))
   pub fw-imbalance-before : Every.fw-imbalance (λ r d x. Flat (sectionIn r) → x .refusal ≡ 0 → x .amount ≡ plainImbalance (sectionIn r) d)
   pub fw-moment-before : Every.fw-moment (λ r d x. Flat (sectionIn r) → x .refusal ≡ 0 → x .amount ≡ plainMoment (sectionIn r) d)
   pub fw-depths-before : Every.fw-depths (λ r before x after. Flat (sectionIn r) → x .refusal ≡ 0 → ListBefore (sectionIn r) before x after)
-  pub fw-first-before : Every.fw-first (λ r x. Flat (sectionIn r) → x .refusal ≡ 0 → x ≡ firstOfList (entryOf (plainList (sectionIn r)) 0))
+  pub fw-first-before : Every.fw-first (λ r x. Flat (sectionIn r) → x .refusal ≡ 0 → x ≡ firstOfList (sectionIn r) (entryOf (plainList (sectionIn r)) 0))
   pub fw-shear-before : Every.fw-shear (λ r x. Flat (sectionIn r) → x .refusal ≡ 0 → x .amount ≡ pos (plainShear (sectionIn r)))
   -- bf = b: a rib answers as the rectangle does
   pub level-refusal : Alike Every.section-refusal Level

@@ -31,7 +31,7 @@ pub record Shallowest (s : Section) (x : FirstDepth) : Type 0 where
   pub balances : Balances s (record { depth = x .depth; kind = x .kind; moment = x .moment })
   pub above : (d : ℕ) → 1 ≤ d → d < x .depth → kindAt s d ≡ 0
 
--- ---- the request's figures: document 01's record 0, and a section in tension
+-- ---- the request's figures, each with the work of [6]: document 01's record 0, and a section in tension
 abbrev pub plain : (b h fck fyk feq2 feq3 : ℕ) → ℤ → Section
 plain b h fck fyk feq2 feq3 load = record {
   b = b;
@@ -49,13 +49,13 @@ plain b h fck fyk feq2 feq3 load = record {
   layers = replicate 8 noLayer;
 }
 
-abbrev pub Gives : Section → (depth kind : ℕ) → ℤ → Type 0
-Gives s depth kind moment = Every.first (λ t x. t ≡ s → x ≡ record { refusal = 0; depth = depth; kind = kind; moment = moment })
+abbrev pub Gives : Section → (depth kind work : ℕ) → ℤ → Type 0
+Gives s depth kind work moment = Every.first (λ t x. t ≡ s → x ≡ record { refusal = 0; depth = depth; kind = kind; work = work; moment = moment })
 
 abbrev pub FirstFigures : Type 0
 FirstFigures =
-    Gives (plain 1000 100 30 500 3700 4500 (pos 0)) 14 2 (pos 14476473000)
-    × Gives (plain 1000 58 50 400 0 0 (negℤ (pos 3378))) 1 1 (negℤ (pos 175816000))
+    Gives (plain 1000 100 30 500 3700 4500 (pos 0)) 14 2 1500 (pos 14476473000)
+    × Gives (plain 1000 58 50 400 0 0 (negℤ (pos 3378))) 1 1 58 (negℤ (pos 175816000))
 
 pub record Request5 : Type 0 where
   pub first : Every.first (λ s x. Every.depths (λ t before y after. t ≡ s → Heads x y after))

@@ -1,6 +1,6 @@
 -- The answer of `depths`, from that of `Law::of`, and what it tells. Assumes nothing.
 use Prim.Native.Nat.{ℕ, suc, _*_, _≤_, _<_}
-use mathlib.Core.Path.{_≡_, refl, sym, _∙_}
+use mathlib.Core.Path.{_≡_, refl, sym, ap, _∙_}
 use mathlib.Core.Bool.{Bool, true, false}
 use mathlib.Core.List.{List}
 use native.Mathlib.Nat.{pos-of-ne-zero}
@@ -23,18 +23,19 @@ use Rattle.depths.specs.declared.Listing.{Listing}
 use Rattle.depths.specs.declared.FirstDepth.{FirstDepth}
 use Rattle.depths.specs.declared.Found.{Found}
 use Rattle.depths.specs.Depths.{kindAt, listed, written}
-use Rattle.depths.specs.Answers.{depthsRefusal, listRefusal, unlisted, noFirst, listAnswer, rowAfter, firstAnswer}
+use Rattle.depths.specs.Answers.{depthsRefusal, listRefusal, workTo, wholeWork, lastLooked, unlisted, noDepth, noFirst, lookedAtAll, listAnswer, rowAfter, firstAnswer}
 use Rattle.depths.specs.Code.{NoneTo, Next}
 use Rattle.depths.proofs.Listed.{empty-list, list-first}
 
--- the first depth that has a kind, with it and with its moment, is the first depth's answer
+-- the first depth that has a kind, with it, with its moment and with the work up to the last depth looked at for it, is the first depth's answer
 pub first-at :
-    (s : Section) → sectionRefusal s ≡ 0 → {x k : ℕ} {z : ℤ} → 1 ≤ x → x ≤ lastDepth s → k ≡ kindAt s x → 0 < k → NoneTo s 1 x → z ≡ moment s x
-    → record { refusal = 0; depth = x; kind = k; moment = z } ≡ firstAnswer s
+    (s : Section) → sectionRefusal s ≡ 0 → {x k w : ℕ} {z : ℤ} → 1 ≤ x → x ≤ lastDepth s → k ≡ kindAt s x → 0 < k → NoneTo s 1 x
+    → w ≡ workTo s (lastLooked x k) → z ≡ moment s x → record { refusal = 0; depth = x; kind = k; work = w; moment = z } ≡ firstAnswer s
 unfolding firstAnswer depthsRefusal
-first-at s ok {x} from to kind some none e =
+first-at s ok {x} from to kind some none took e =
     let l = list-first (kindAt s) (moment s) (lastDepth s) x from to (λ z. omega arith) none in
-    rw (ok, l .1, lt-ltb 0 (suc (length (l .0))) (omega arith)) (λ j. record { refusal = 0; depth = x; kind = kind j; moment = e j })
+    let work = took ∙ ap (λ k. workTo s (lastLooked x k)) kind in
+    rw (ok, l .1, lt-ltb 0 (suc (length (l .0))) (omega arith)) (λ j. record { refusal = 0; depth = x; kind = kind j; work = work j; moment = e j })
 
 module _ (s : Section) (a : LawAnswer) (is : a ≡ lawAnswer s) where
   module _ (row : List ℤ) where
@@ -48,7 +49,7 @@ module _ (s : Section) (a : LawAnswer) (is : a ≡ lawAnswer s) where
         (rw (t, number s is), rw (t, t, t))
 
     module _ (n : ℕ) (count : n ≡ length (listed s)) (ok : a .refusal ≡ 0) where
-      pub lists-none : n ≡ 0 → Answers (unlisted 14) row
+      pub lists-none : n ≡ 0 → Answers (lookedAtAll s 14 0) row
       unfolding listAnswer listRefusal depthsRefusal rowAfter
       lists-none e = let z = no-refusal s is ok in let c = sym count ∙ e in (rw (z, c), rw (z, c))
 
@@ -56,14 +57,14 @@ module _ (s : Section) (a : LawAnswer) (is : a ≡ lawAnswer s) where
         there : ltb 0 (length (listed s)) ≡ true
         there = lt-ltb 0 (length (listed s)) (pos-of-ne-zero (λ z. has (count ∙ z)))
 
-        pub lists-short : length row < 3 * n → Answers (record { refusal = 15; count = n }) row
+        pub lists-short : length row < 3 * n → Answers (lookedAtAll s 15 n) row
         unfolding listAnswer listRefusal depthsRefusal rowAfter
         lists-short h =
             let z = no-refusal s is ok in
             let f = lt-leb (3 * length (listed s)) (length row) (rw count at h) in
             (rw (z, there, f, count), rw (z, there, f))
 
-        pub lists : 3 * n ≤ length row → Answers (record { refusal = 0; count = n }) (written (listed s) row)
+        pub lists : 3 * n ≤ length row → Answers (lookedAtAll s 0 n) (written (listed s) row)
         unfolding listAnswer listRefusal depthsRefusal rowAfter
         lists h =
             let z = no-refusal s is ok in
@@ -72,18 +73,21 @@ module _ (s : Section) (a : LawAnswer) (is : a ≡ lawAnswer s) where
 
   -- ---- the first depth alone, by the next listed from depth 1 on
   pub refuses-first : (a .refusal ≡ 0 → ⊥) → noFirst (a .refusal) ≡ firstAnswer s
-  unfolding firstAnswer depthsRefusal
-  refuses-first h = let t = some-refusal s is h in rw (t, t, number s is)
+  unfolding firstAnswer
+  refuses-first h = rw (some-refusal s is h, number s is)
 
-  module _ (ok : a .refusal ≡ 0) {f : Found} (next : Next s 1 f) where
-    pub first-none : lastDepth s < f .depth → noFirst 14 ≡ firstAnswer s
+  module _ (ok : a .refusal ≡ 0) {f : Found} (next : Next s 1 f) {w : ℕ} where
+    pub first-none : lastDepth s < f .depth → w ≡ wholeWork s → noDepth w 14 ≡ firstAnswer s
     unfolding firstAnswer depthsRefusal
-    first-none past = rw (no-refusal s is ok, empty-list (kindAt s) (moment s) (lastDepth s) (λ x low high. next .none x low (omega arith)))
+    first-none past took =
+        rw (no-refusal s is ok, empty-list (kindAt s) (moment s) (lastDepth s) (λ x low high. next .none x low (omega arith))) (λ j. noDepth (took j) 14)
 
     pub first-found :
-        f .depth ≤ lastDepth s → {z : ℤ} → z ≡ moment s (f .depth)
-        → record { refusal = 0; depth = f .depth; kind = f .kind; moment = z } ≡ firstAnswer s
-    first-found inside e = let k = next .listed inside in first-at s (no-refusal s is ok) (next .on) inside (k .0) (k .1) (next .none) e
+        f .depth ≤ lastDepth s → w ≡ workTo s (f .looked) → {z : ℤ} → z ≡ moment s (f .depth)
+        → record { refusal = 0; depth = f .depth; kind = f .kind; work = w; moment = z } ≡ firstAnswer s
+    first-found inside took e =
+        let k = next .listed inside in
+        first-at s (no-refusal s is ok) (next .on) inside (k .0) (k .1) (next .none) (took ∙ ap (workTo s) (next .last inside)) e
 
 -- ---- what the list's answer and its row tell
 module _ (s : Section) (room : ℕ) {a : Listing} (is : a ≡ listAnswer s room) where
@@ -97,6 +101,10 @@ module _ (s : Section) (room : ℕ) {a : Listing} (is : a ≡ listAnswer s room)
   pub list-count : sectionRefusal s ≡ 0 → a .count ≡ length (listed s)
   unfolding listAnswer
   list-count ok = rw (is, ok)
+
+  pub list-work : sectionRefusal s ≡ 0 → a .work ≡ wholeWork s
+  unfolding listAnswer
+  list-work ok = rw (is, ok)
 
   -- beside 15 too; beside any other refusal there is none
   pub list-needed : (sectionRefusal s ≡ 15 → ⊥) → a .refusal ≡ 15 → a .count ≡ length (listed s)
@@ -124,8 +132,11 @@ unfolding depthsRefusal
 some-listed s none = passes 13 0 (is-less 0 (length (listed s))) (none-of (sectionRefusal s) _ none .1) .0
 
 pub first-number : (s : Section) {x : FirstDepth} → x ≡ firstAnswer s → x .refusal ≡ depthsRefusal s
-unfolding firstAnswer
-first-number s is = rw is (bears (λ (x : FirstDepth). x .refusal) (depthsRefusal s) _ noFirst refl refl)
+unfolding firstAnswer depthsRefusal
+first-number s is =
+    rw is
+    (of-answer (λ (x : FirstDepth). x .refusal ≡ depthsRefusal s) (sectionRefusal s) _ noFirst
+    (λ e. bears (λ (x : FirstDepth). x .refusal) (depthsRefusal s) _ (noDepth (wholeWork s)) refl refl) (λ h. rw (ne-eqb (sectionRefusal s) 0 h)))
 
 pub row-written : (s : Section) (row : List ℤ) → listRefusal s (length row) ≡ 0 → rowAfter s row ≡ written (listed s) row
 unfolding rowAfter

@@ -68,6 +68,7 @@ module _ {s : Section} {from i before : ℕ} (w : Walked s from i before) where
         none = further (λ side. kind-last s i (not-zero s i (there side) side) (omega arith));
         end = omega arith;
         listed = λ h. absurd (omega arith);
+        last = λ h. absurd (omega arith);
       }
 
   -- one depth more, and the sign there
@@ -86,6 +87,7 @@ module _ {s : Section} {from i before : ℕ} (w : Walked s from i before) where
       none = none-there (λ z. omega (arith, sign-small));
       end = omega arith;
       listed = λ h. (sym (kind-one s (i + 1) (sign-zero _ (sym is ∙ e))), omega arith, refl);
+      last = λ h. refl;
     }
 
     module _ (some : here ≡ 0 → ⊥) where
@@ -99,6 +101,7 @@ module _ {s : Section} {from i before : ℕ} (w : Walked s from i before) where
             none = λ x low high. w .none x low (omega (arith, open-side i before side));
             end = omega arith;
             listed = λ h. (sym (kind-two s i more (signs side ∙ eq-eqb _ 3 e)), omega arith, open-side (i + 1) here some);
+            last = λ h. refl;
           }
 
       pub walked-next : (before + here ≡ 3 → ⊥) → Walked s from (i + 1) here

@@ -2,12 +2,14 @@
 use Prim.Native.Nat.{ℕ, zero, suc, _+_, _≤_, _<_}
 use mathlib.Core.Path.{_≡_, refl}
 use mathlib.Core.Bool.{Bool, true, false, cond, _&&_, _||_, or-true, false≢true}
+use mathlib.Core.Logic.{⊎-elim}
 use native.Mathlib.Omega.{arith}
 use lib.Dec.{ltb, eqb}
 use lib.IntN.{ℤ, pos, negsuc, natAbs}
 use lib.Signed.{ltZ, _<ℤ_, _≤ℤ_}
 use borrow.Author.Tests.{lt-ltb, le-ltb, ne-eqb}
 use Rattle.arith.proofs.Signed.{abs-parts, lt-test, test-le, zarith}
+use Rattle.arith.proofs.Tests.{less-or-not}
 use Rattle.section.specs.declared.Section.{Section}
 use Rattle.forces.specs.Forces.{imbalance}
 use Rattle.section.specs.Has.{lastDepth}
@@ -81,6 +83,15 @@ module _ (s : Section) (x : ℕ) where
     pub kind-last : lastDepth s ≤ x → kindAt s x ≡ 0
     unfolding kindAt
     kind-last h = rw (other some, le-ltb x (lastDepth s) h)
+
+  -- the last depth has not kind 2
+  pub two-inside : kindAt s x ≡ 2 → x < lastDepth s
+  unfolding kindAt
+  two-inside e = ⊎-elim (λ less. less) (λ past. absurd (pick (eqb (natAbs (imbalance s x)) 0) (rw (le-ltb x (lastDepth s) past) at e))) (less-or-not x (lastDepth s))
+    where
+      pick : (t : Bool) → cond {A = ℕ} t 1 0 ≡ 2 → ⊥
+      pick true e = omega arith
+      pick false e = omega arith
 
   pub kind-most : kindAt s x ≤ 2
   unfolding kindAt

@@ -2,9 +2,9 @@
 use Prim.Native.Nat.{ℕ, suc, _+_, _*_, _≤_, _<_}
 use mathlib.Core.Path.{_≡_, refl, ap}
 use mathlib.Core.Bool.{Bool, true, false, false≢true}
-use mathlib.Core.Logic.{_⊎_, ⊎-elim, _↔_, Iff·trans}
+use mathlib.Core.Logic.{_⊎_, inl, inr, ⊎-elim, _↔_, Iff·trans}
 use mathlib.Core.List.{List, [], _∷_, List·Memᴰ, List·Memᴰ·head, List·Memᴰ·tail, List·Memᴰ·not-nil, Memᴰ·cast}
-use native.Mathlib.Nat.{eq-zero-or-pos}
+use native.Mathlib.Nat.{eq-zero-or-pos, eq-or-lt-of-le}
 use native.Mathlib.Omega.{arith}
 use lib.Dec.{ltb, leb}
 use lib.IntN.{pos}
@@ -18,9 +18,9 @@ use Rattle.section.proofs.Accepted.{accepted}
 use Rattle.forces.specs.Forces.{imbalance, moment}
 use Rattle.section.specs.Has.{lastDepth}
 use Rattle.depths.specs.Depths.{Entry, entryOf, kindAt, listed, Balances, SomeDepth, NoDepth, Rising}
-use Rattle.depths.specs.Answers.{depthsRefusal, listRefusal}
+use Rattle.depths.specs.Answers.{depthsRefusal, listRefusal, lastLooked}
 use Rattle.depths.proofs.Listed.{at-place, list-only, list-all, list-rising, list-empty, empty-list}
-use Rattle.depths.proofs.Sided.{falls, rises, kind-one, kind-two}
+use Rattle.depths.proofs.Sided.{falls, rises, kind-one, kind-two, two-inside, kind-most}
 
 -- ---- 1. the list has exactly the depths that balance, in strictly ascending order, and is refused as empty exactly where there is none
 pub listed-exactly : (s : Section) (e : Entry) → List·Memᴰ e (listed s) ↔ Balances s e
@@ -101,3 +101,11 @@ first-shallowest s some x from to =
     ⊎-elim (λ z. z)
     (λ kind. absurd (omega (arith, first-least (listed s) (listed-rising s) (list-all (kindAt s) (moment s) (lastDepth s) x from (omega arith) kind))))
     (eq-zero-or-pos (kindAt s x))
+
+-- ---- 5. what balances has kind 1 or 2, and the last depth that is looked at for it is on the grid
+module _ (s : Section) {e : Entry} (b : Balances s e) where
+  pub one-or-two : (e .kind ≡ 1) ⊎ (e .kind ≡ 2)
+  one-or-two = ⊎-elim (λ two. inr two) (λ less. inl (omega (arith, b .some))) (eq-or-lt-of-le {n = e .kind} {m = 2} (omega (arith, b .kind, kind-most s (e .depth))))
+
+  pub looked-inside : lastLooked (e .depth) (e .kind) ≤ lastDepth s
+  looked-inside = ⊎-elim (λ one. rw one (b .to)) (λ two. rw two (omega (arith, two-inside s (e .depth) (omega (arith, b .kind))))) one-or-two

@@ -14,6 +14,7 @@ use Rattle.strips.specs.declared.Range.{Range}
 use Rattle.forces.specs.Forces.{imbalance}
 use Rattle.depths.specs.declared.Found.{Found}
 use Rattle.depths.specs.Depths.{kindAt}
+use Rattle.depths.specs.Answers.{lastLooked}
 
 -- a force lies from one bound to the other, which are of at most so much
 pub record Lies (force : ℤ) (most : ℕ) (r : Range) : Type 0 where
@@ -67,7 +68,7 @@ pub record Walked (s : Section) (from looked z : ℕ) : Type 0 where
   pub on : from ≤ openFrom looked z
   pub none : NoneTo s from (openFrom looked z)
 
--- the next listed depth from one on, from which the walk can go on; past the grid, where there is none
+-- the next listed depth from one on, with the last depth looked at for it, from which the walk can go on; past the grid, where there is none
 pub record Next (s : Section) (from : ℕ) (f : Found) : Type 0 where
   pub inside : f .looked ≤ lastDepth s
   pub sign : f .sign ≡ signLooked s (f .looked)
@@ -75,6 +76,7 @@ pub record Next (s : Section) (from : ℕ) (f : Found) : Type 0 where
   pub end : f .depth ≤ lastDepth s + 1
   pub none : NoneTo s from (f .depth)
   pub listed : f .depth ≤ lastDepth s → (f .kind ≡ kindAt s (f .depth)) × (0 < f .kind) × (openFrom (f .looked) (f .sign) ≡ f .depth + 1)
+  pub last : f .depth ≤ lastDepth s → f .looked ≡ lastLooked (f .depth) (f .kind)
 
 -- the kinds of the depths above one are kept, that of depth 1 first, and no other
 abbrev pub Kept : Section → ℕ → List ℕ → Type 0

@@ -1,6 +1,6 @@
 // Where the forces of a section balance: the sign of the imbalance at each depth, the list of every depth, and the first alone (document 01, 'Strains,
-// strips and balance'; document 02 [5]). A list needs no imbalance but its sign: bounds of the strips' force give it without a strip visited wherever
-// zero does not lie between them, and the rule itself where it does.
+// strips and balance'; document 02 [5]), with the work that it took ([6]). A list needs no imbalance but its sign: bounds of the strips' force give it
+// without a strip visited wherever zero does not lie between them, and the rule itself where it does.
 ghost use mathlib.Core.Path.{_≡_};
 ghost use Prim.Native.Nat.{_+_, _*_, _-_, _≤_, _<_};
 ghost use lib.IntN.{pos, natAbs, _*ℤ_};
@@ -13,7 +13,7 @@ ghost use Rattle.strips.specs.Strips.{scaleOf, stripAt};
 ghost use Rattle.forces.specs.Forces.{strainScale, stripForce, barForce, imbalance, moment};
 ghost use Rattle.depths.specs.Depths.{listed, written};
 ghost use Rattle.depths.specs.Code.{mostRun, mostBars, Lies, runEnd, signOf, signLooked, openFrom, Next, Kept};
-ghost use Rattle.depths.specs.Answers.{unlisted, noFirst, listAnswer, rowAfter, firstAnswer};
+ghost use Rattle.depths.specs.Answers.{workTo, unlisted, noDepth, noFirst, lookedAtAll, listAnswer, rowAfter, firstAnswer};
 use law::Law;
 use section::Section;
 use strips::Axis;
@@ -23,6 +23,7 @@ use strips::Range;
 pub struct Listing {
     pub refusal: u32,
     pub count: u32,
+    pub work: u32,
 }
 
 #[repr(C)]
@@ -30,6 +31,7 @@ pub struct FirstDepth {
     pub refusal: u32,
     pub depth: u32,
     pub kind: u32,
+    pub work: u32,
     pub moment: i64,
 }
 
@@ -48,29 +50,49 @@ struct Found {
 }
 
 impl Listing {
-    // A refusal's number beside no depth.
+    // A refusal's number beside no depth, and no work.
     pub fn refused(number: u32) -> Listing
         ensures { λ r. ⌜ r ≡ unlisted number ⌝ }
     {
         Listing {
             refusal: number,
             count: 0,
+            work: 0,
         }
     }
 }
 
 impl FirstDepth {
-    // A refusal's number beside no depth.
+    // A refusal's number beside no depth, and no work.
     pub fn refused(number: u32) -> FirstDepth
         ensures { λ r. ⌜ r ≡ noFirst number ⌝ }
     {
-        FirstDepth {
-            refusal: number,
-            depth: 0,
-            kind: 0,
-            moment: 0,
-        }
+        no_depth(0, number)
     }
+}
+
+// A refusal's number beside no depth, and the work that it took to find none.
+fn no_depth(work: u32, number: u32) -> FirstDepth
+    ensures { λ r. ⌜ r ≡ noDepth work number ⌝ }
+{
+    FirstDepth {
+        refusal: number,
+        depth: 0,
+        kind: 0,
+        work: work,
+        moment: 0,
+    }
+}
+
+// The stresses of the imbalances at the depths from 1 to one, as the rule counts them: every strip and every layer at each, whether the sign there
+// needed it or not.
+fn work_to(section: Section, last: u32) -> u32
+    requires { ⌜ (Accepted section) × (last ≤ lastDepth section) ⌝ }
+    ensures { λ r. ⌜ r ≡ workTo section last ⌝ }
+{
+    let strips = section.h as u32;
+    let layers = section.count as u32;
+    last * (strips + layers)
 }
 
 // Where the force of the strips from..to lies, which have one width, in mN.
@@ -247,7 +269,7 @@ fn moment_at(section: Section, x: u32) -> i64
     forces::moment(section, x).amount
 }
 
-// The first listed depth alone, its kind and its moment. Or 7 to 13 with 20, or 14, and zeros.
+// The first listed depth alone, its kind, its moment, and the work that it took. Or 7 to 13 with 20, and zeros; or 14, the work, and zeros.
 pub fn first(section: Section) -> FirstDepth
     ensures { λ r. ⌜ r ≡ firstAnswer section ⌝ }
 {
@@ -258,12 +280,14 @@ pub fn first(section: Section) -> FirstDepth
     let last = section.last_depth();
     let found = next_listed(section, answer.law, 0, 0);
     if last < found.depth {
-        return FirstDepth::refused(14);
+        let work = work_to(section, last);
+        return no_depth(work, 14);
     }
     FirstDepth {
         refusal: 0,
         depth: found.depth,
         kind: found.kind as u32,
+        work: work_to(section, found.looked),
         moment: moment_at(section, found.depth),
     }
 }
@@ -287,7 +311,22 @@ fn write_list(section: Section, kept: &[u8; 1000], row: &mut [i64])
     }
 }
 
-// The listed depths of a section, three words each: x, kind, moment; and their number. Or 7 to 13 with 20, 14 or 15, and the row as it was.
+// The list's answer for a section that is not refused: every depth of the grid was looked at.
+fn looked_at_all(section: Section, number: u32, count: u32) -> Listing
+    requires { ⌜ Accepted section ⌝ }
+    ensures { λ r. ⌜ r ≡ lookedAtAll section number count ⌝ }
+{
+    let last = section.last_depth();
+    let took = work_to(section, last);
+    Listing {
+        refusal: number,
+        count: count,
+        work: took,
+    }
+}
+
+// The listed depths of a section, three words each: x, kind, moment; their number, and the work that it took. Or 7 to 13 with 20, and zeros, or 14
+// or 15; and the row as it was.
 pub fn depths(section: Section, row: &mut [i64]) -> Listing
     ensures { λ r. ⌜ (r ≡ listAnswer section (length (now (row .entry)))) × (now (row .exit) ≡ rowAfter section (now (row .entry))) ⌝ }
 {
@@ -298,17 +337,11 @@ pub fn depths(section: Section, row: &mut [i64]) -> Listing
     let kept = kinds(section, answer.law);
     let count = listed_count(section, &kept);
     if count == 0 {
-        return Listing::refused(14);
+        return looked_at_all(section, 14, 0);
     }
     if row.len() < 3 * (count as usize) {
-        return Listing {
-            refusal: 15,
-            count: count,
-        };
+        return looked_at_all(section, 15, count);
     }
     write_list(section, &kept, row);
-    Listing {
-        refusal: 0,
-        count: count,
-    }
+    looked_at_all(section, 0, count)
 }

@@ -85,7 +85,7 @@ impl Held {
     /// That `fw_first` gives this depth.
     pub fn first(&mut self, record: &[u8], first: First) {
         let mut case = of_record(b'f', record);
-        for number in [first.refusal, first.depth, first.kind] {
+        for number in [first.refusal, first.depth, first.kind, first.work] {
             case.extend(number.to_le_bytes());
         }
         case.extend(first.moment.to_le_bytes());
@@ -114,14 +114,15 @@ impl Held {
             let words = row.iter();
             words.flat_map(|word| word.to_le_bytes()).collect()
         });
-        self.writes(case, &before, [listed.refusal, listed.count], &after);
+        let numbers = [listed.refusal, listed.count, listed.work];
+        self.writes(case, &before, &numbers, &after);
     }
 
     /// That `fw_write_book` gives this, and makes of the bytes `before` the bytes `after`.
     pub fn write_book(&mut self, records: &[u8], before: &[u8], written: Written, after: &[u8]) {
         let mut case = of_string(b'w', records);
         case.extend((before.len() as u32).to_le_bytes());
-        self.writes(case, before, [written.refusal, written.len], after);
+        self.writes(case, before, &[written.refusal, written.len], after);
     }
 
     /// That `fw_add_layer` gives this, and makes of the bytes `before` the bytes `after`.
@@ -137,15 +138,15 @@ impl Held {
             case.extend(number.to_le_bytes());
         }
         case.extend(length(before));
-        self.writes(case, before, [written.refusal, written.len], after);
+        self.writes(case, before, &[written.refusal, written.len], after);
     }
 
     /// Ends a case of a function that writes into what it is lent.
-    fn writes(&mut self, mut case: Vec<u8>, before: &[u8], answer: [u32; 2], after: &[u8]) {
+    fn writes(&mut self, mut case: Vec<u8>, before: &[u8], answer: &[u32], after: &[u8]) {
         assert_eq!(before.len(), after.len());
         case.extend(before);
         case.extend(after);
-        case.extend(answer.map(u32::to_le_bytes).as_flattened());
+        case.extend(answer.iter().flat_map(|number| number.to_le_bytes()));
         self.case(&case);
     }
 

@@ -44,7 +44,7 @@ fn the_face_writes_the_rules_list() {
     let mut held = Held::new();
     each_row(|case, before| {
         let mut after = before.to_vec();
-        let listed = rules::write(&case.list, &mut after);
+        let listed = rules::write(&case.record, &case.list, &mut after);
         held.depths(&case.record, before, listed, &after);
     });
     held.finish();
@@ -105,7 +105,7 @@ fn the_depths_and_the_rows_reach_every_refusal() {
         depths.insert(rules::amounts(record, x).imbalance.refusal);
     });
     each_row(|case, row| {
-        rows.insert(rules::write(&case.list, &mut row.to_vec()).refusal);
+        rows.insert(rules::write(&case.record, &case.list, &mut row.to_vec()).refusal);
     });
     assert_eq!(depths, sections::refusals_and([0, 18]));
     assert_eq!(rows, sections::refusals_and([0, 14, 15]));
@@ -249,7 +249,7 @@ mod linked {
             // It reads the record, writes the row and touches no other memory of the caller's.
             let listed =
                 unsafe { fw_depths(record.as_ptr(), record.len(), row.as_mut_ptr(), row.len()) };
-            let right = (rules::write(&case.list, &mut after), after);
+            let right = (rules::write(&case.record, &case.list, &mut after), after);
             assert_eq!((listed, row), right, "{record:?} with {before:?}");
         });
     }

@@ -28,7 +28,7 @@ impl Answers {
         Answers {
             drawn: rules::draw(record, STRAIN),
             amounts: rules::amounts(record, X),
-            listed: rules::write(&rules::list_of(record), &mut row),
+            listed: rules::write(record, &rules::list_of(record), &mut row),
             row,
             shear: rules::shear(record),
         }

@@ -1,4 +1,4 @@
-//! `fw_first` held to the first depth of document 01's list.
+//! `fw_first` held to the first depth of document 01's list, and the work that it and the list report.
 use fordwhistle_tests::held::Held;
 use fordwhistle_tests::lists::{cases, Case, ACCEPTED};
 use fordwhistle_tests::rules::{self, First, List, Section};
@@ -8,14 +8,14 @@ use std::collections::BTreeSet;
 #[test]
 fn the_face_gives_the_first_depth_of_the_rules_list() {
     let mut held = Held::new();
-    cases().for_each(|case| held.first(&case.record, rules::first(&case.list)));
+    cases().for_each(|case| held.first(&case.record, rules::first(&case.record, &case.list)));
     held.finish();
 }
 
 #[test]
 fn the_records_reach_every_refusal() {
     let refusals: BTreeSet<u32> = cases()
-        .map(|case| rules::first(&case.list).refusal)
+        .map(|case| rules::first(&case.record, &case.list).refusal)
         .collect();
     assert_eq!(refusals, sections::refusals_and([0, 14]));
 }
@@ -72,6 +72,52 @@ fn every_wrong_first_depth_would_show_in_many_sections() {
     }
 }
 
+/// What a wrong program reports as the work of the first depth and of the list, for these right two.
+type WorkError = (&'static str, fn(&Section, &List, [u32; 2]) -> [u32; 2]);
+
+fn each(section: &Section) -> u32 {
+    u32::from(section.h) + section.layers.len() as u32
+}
+
+const WORK_ERRORS: [WorkError; 6] = [
+    (
+        "a change of sign at its own depth",
+        |section, list, works| match list.first() {
+            Some([x, 2, _]) => [*x as u32 * each(section), works[1]],
+            _ => works,
+        },
+    ),
+    ("none beside 14", |_, list, works| {
+        works.map(|work| if list.is_empty() { 0 } else { work })
+    }),
+    ("strips alone", |section, _, works| {
+        works.map(|work| work / each(section) * u32::from(section.h))
+    }),
+    (
+        "listed depths for those looked at",
+        |section, list, works| [works[0], list.len() as u32 * each(section)],
+    ),
+    ("of the list what the first takes", |_, _, works| {
+        [works[0]; 2]
+    }),
+    ("of the first what the list takes", |_, _, works| {
+        [works[1]; 2]
+    }),
+];
+
+#[test]
+fn every_wrong_work_would_show_in_many_sections() {
+    for (error, wrong) in WORK_ERRORS {
+        let shows = |(section, case): &&(Section, Case)| {
+            let first = rules::first(&case.record, &case.list).work;
+            let works = [first, rules::write(&case.record, &case.list, &mut []).work];
+            wrong(section, case.list.as_ref().unwrap(), works) != works
+        };
+        let shown = ACCEPTED.iter().filter(shows).count();
+        assert!(shown > 30, "{error}: {shown}");
+    }
+}
+
 #[test]
 fn the_first_depths_reach_both_kinds_alone_and_before_others_and_both_ends_of_the_grid() {
     let (mut inside, mut ends) = (BTreeSet::new(), BTreeSet::new());
@@ -107,7 +153,12 @@ mod linked {
         for case in cases() {
             // It reads the record and touches no other memory of the caller's.
             let first = unsafe { fw_first(case.record.as_ptr(), case.record.len()) };
-            assert_eq!(first, rules::first(&case.list), "{:?}", case.record);
+            assert_eq!(
+                first,
+                rules::first(&case.record, &case.list),
+                "{:?}",
+                case.record
+            );
         }
     }
 }

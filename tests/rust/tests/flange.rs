@@ -47,6 +47,7 @@ fn the_face_gives_the_figures() {
     let listed = Listed {
         refusal: 0,
         count: 1,
+        work: 400 * 401,
     };
     held.depths(&record, &[0; 3], listed, &LISTED);
     held.amounts(&record, X.into(), sums);
@@ -67,7 +68,7 @@ fn a_flange_as_wide_as_the_web_changes_no_answer() {
         let rib = section.record();
         let x = random.within(1..=h.into()) as u32;
         let mut row = [0; 3 * 100];
-        let listed = rules::write(&rules::list_of(&rectangle), &mut row);
+        let listed = rules::write(&rectangle, &rules::list_of(&rectangle), &mut row);
         held.amounts(&rib, x, rules::amounts(&rectangle, x));
         held.depths(&rib, &[0; 3 * 100], listed, &row);
         held.shear(&rib, rules::shear(&rectangle));

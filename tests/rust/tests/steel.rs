@@ -59,6 +59,7 @@ fn the_face_gives_the_figures() {
     let listed = Listed {
         refusal: 0,
         count: 1,
+        work: 500 * 503,
     };
     held.depths(&beam, &[0; 3], listed, &LISTED);
     held.shear(&beam, SHEAR);

@@ -117,11 +117,11 @@ fn aimed() -> impl Iterator<Item = Case> {
 }
 
 /// A row with a word more than the list has, and what `fw_depths` makes of it.
-fn row(list: &Result<List, u32>) -> (Vec<i64>, rules::Listed, Vec<i64>) {
+fn row(record: &[u8], list: &Result<List, u32>) -> (Vec<i64>, rules::Listed, Vec<i64>) {
     let words = list.as_ref().map_or(0, |list| 3 * list.len());
     let before = vec![-1; words + 1];
     let mut after = before.clone();
-    (before, rules::write(list, &mut after), after)
+    (before, rules::write(record, list, &mut after), after)
 }
 
 #[test]
@@ -147,8 +147,8 @@ fn the_face_lists_the_depths_of_sections_that_are_aimed_at_zero() {
     let mut held = Held::new();
     for case in aimed() {
         let (record, list) = (case.section.record(), case.list());
-        let (before, listed, after) = row(&list);
-        held.first(&record, rules::first(&list));
+        let (before, listed, after) = row(&record, &list);
+        held.first(&record, rules::first(&record, &list));
         held.depths(&record, &before, listed, &after);
     }
     held.finish();
@@ -203,7 +203,8 @@ mod linked {
     #[test]
     fn the_face_linked_lists_the_depths_of_sections_that_are_aimed_at_zero() {
         for case in aimed() {
-            let (record, (mut written, listed, after)) = (case.section.record(), row(&case.list()));
+            let record = case.section.record();
+            let (mut written, listed, after) = row(&record, &case.list());
             let words = written.len();
             // It reads the record, writes the row and touches no other memory of the caller's.
             let answer =

@@ -23,13 +23,14 @@ returns-2 c =
     let n = c .before .before .listed-count in
     let s = c .before .before .before .before .before in
     let w = lists-none _ _ (s .before .before .of .ensures) (s .before .before .before .args .row .now) (n .result) (n .ensures .0) (s .if1 .left) (c .before .if2 .taken) in
-    (c .refused2 .ensures ∙ w .0, w .1)
+    (c .looked-at-all .ensures ∙ w .0, w .1)
 
 returns-3 : tie.Need-returns-3
 returns-3 c =
-    let n = c .before .before .listed-count in
-    let s = c .before .before .before .before .before in
-    lists-short _ _ (s .before .before .of .ensures) (s .before .before .before .args .row .now) (n .result) (n .ensures .0) (s .if1 .left) (c .before .if2 .left) (c .if3 .taken)
+    let n = c .before .before .before .listed-count in
+    let s = c .before .before .before .before .before .before in
+    let w = lists-short _ _ (s .before .before .of .ensures) (s .before .before .before .args .row .now) (n .result) (n .ensures .0) (s .if1 .left) (c .before .before .if2 .left) (c .before .if3 .taken) in
+    (c .looked-at-all2 .ensures ∙ w .0, w .1)
 
 write-list-requires : tie.Need-write-list-requires
 write-list-requires c κs =
@@ -39,11 +40,11 @@ write-list-requires c κs =
 
 returns-4 : tie.Need-returns-4
 returns-4 c =
-    let n = c .before .before .before .before .before .before .listed-count in
-    let s = c .before .before .before .before .before .before .before .before .before in
-    let t = c .before .before .before .before in
+    let n = c .before .before .before .before .before .before .before .listed-count in
+    let s = c .before .before .before .before .before .before .before .before .before .before in
+    let t = c .before .before .before .before .before in
     let w = lists _ _ (s .before .before .of .ensures) (s .before .before .before .args .row .now) (n .result) (n .ensures .0) (s .if1 .left) (t .before .if2 .left) (t .if3 .left) in
-    (w .0, c .before .write-list .ensures ∙ w .1)
+    (c .looked-at-all3 .ensures ∙ w .0, c .before .before .write-list .ensures ∙ w .1)
 
 pub depths-spec : {M : Type 1} → statement M
 depths-spec =
@@ -54,11 +55,13 @@ depths-spec =
     returns
     (λ c κs. met c)
     (λ c κs. (met (c .before .before) .0, c .before .kinds .ensures))
-    (λ c κs. search needs)
+    (λ c κs. met (c .before .before .before .before) .0)
     returns-2
     (λ c. search needs)
     (λ c. search needs)
+    (λ c κs. met (c .before .before .before .before .before) .0)
     returns-3
     write-list-requires
+    (λ c κs. met (c .before .before .before .before .before .before .before .before .before) .0)
     (λ c. search needs)
     returns-4)

@@ -1,6 +1,6 @@
 -- `first`: the three ways that the first depth is answered. Assumes nothing.
 use Prim.Native.Nat.{_≤_, _<_}
-use mathlib.Core.Path.{_≡_, refl, _∙_}
+use mathlib.Core.Path.{_≡_, refl, ap, _∙_}
 use native.Mathlib.Omega.{arith}
 use borrow.Author.Needs.{needs}
 use Rattle.arith.proofs.Machine.{read}
@@ -8,6 +8,7 @@ use Rattle.section.specs.Accepted.{Accepted}
 use Rattle.section.specs.Has.{lastDepth}
 use Rattle.law.specs.Law.{lawOf}
 use Rattle.law.proofs.Answers.{passes}
+use Rattle.depths.specs.Answers.{workTo}
 use Rattle.depths.specs.Code.{Next}
 use Rattle.depths.proofs.Answers.{refuses-first, first-none, first-found}
 use Rattle.depths.proofs.first.Statement.{statement}
@@ -35,15 +36,17 @@ inside c = omega (arith, c .if2 .left, c .before .before .before .last-depth .en
 
 returns-2 : tie.Need-returns-2
 returns-2 c =
-    let t = c .before in
+    let t = c .before .before in
     let s = start (t .before) in
-    c .refused2 .ensures ∙ first-none _ _ (s .before .before .of .ensures) (s .if1 .left) (found (t .before)) (past t)
+    let took = c .before .work-to .ensures ∙ ap (workTo (s .before .before .before .args .section)) (t .before .before .before .last-depth .ensures) in
+    c .no-depth .ensures ∙ first-none _ _ (s .before .before .of .ensures) (s .if1 .left) (found (t .before)) (past t) took
 
 returns-3 : tie.Need-returns-3
 returns-3 c =
-    let t = c .before .before in
+    let t = c .before .before .before in
     let s = start (t .before) in
-    first-found _ _ (s .before .before .of .ensures) (s .if1 .left) (found (t .before)) (inside t) (read (record { sfits = c .moment-at .ok }) ∙ c .moment-at .ensures)
+    let moment = read (record { sfits = c .moment-at .ok }) ∙ c .moment-at .ensures in
+    first-found _ _ (s .before .before .of .ensures) (s .if1 .left) (found (t .before)) (inside t) (c .before .work-to2 .ensures) moment
 
 pub first-spec : {M : Type 1} → statement M
 first-spec =
@@ -54,8 +57,10 @@ first-spec =
     returns
     (λ c κs. search needs)
     (λ c κs. (met (c .before) .0, met (c .before) .1, omega arith, refl))
+    (λ c κs. (met (start (c .before)) .0, omega (arith, c .before .before .before .last-depth .ensures)))
     (λ c κs. search needs)
     returns-2
     (λ c. search needs)
-    (λ c κs. let t = c .before in (met (start (t .before)) .0, omega (arith, found (t .before) .on), inside t))
+    (λ c κs. let t = c .before in (met (start (t .before)) .0, found (t .before) .inside))
+    (λ c κs. let t = c .before .before in (met (start (t .before)) .0, omega (arith, found (t .before) .on), inside t))
     returns-3)

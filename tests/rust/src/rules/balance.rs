@@ -29,6 +29,7 @@ impl Amount {
 pub struct Listed {
     pub refusal: u32,
     pub count: u32,
+    pub work: u32,
 }
 
 /// `fw_first_depth`.
@@ -38,6 +39,7 @@ pub struct First {
     pub refusal: u32,
     pub depth: u32,
     pub kind: u32,
+    pub work: u32,
     pub moment: i64,
 }
 
@@ -203,43 +205,56 @@ pub fn list_of(record: &[u8]) -> Result<List, u32> {
     Section::of(record).map(|section| list(&section))
 }
 
-/// What `fw_first` answers where this is the list.
-pub fn first(list: &Result<List, u32>) -> First {
+/// The stresses of the imbalances at the depths from 1 to the last that is looked at: strips plus layers at each. None are taken of a section
+/// that is refused.
+fn work(record: &[u8], last: impl Fn(&Section) -> i64) -> u32 {
+    let each = |section: &Section| i64::from(section.h) + section.layers.len() as i64;
+    Section::of(record).map_or(0, |section| (last(&section) * each(&section)) as u32)
+}
+
+/// What `fw_first` answers of a record where this is the list.
+pub fn first(record: &[u8], list: &Result<List, u32>) -> First {
     let refused = |refusal| (refusal, [0; 3]);
     let (refusal, [depth, kind, moment]) = match list {
         Ok(list) => list.first().map_or(refused(14), |first| (0, *first)),
         Err(refusal) => refused(*refusal),
     };
+    // A zero shows at its own depth, a change of sign at the next, and that there is none at the last.
+    let last = |section: &Section| match kind {
+        1 => depth,
+        2 => depth + 1,
+        _ => section.h.into(),
+    };
     First {
         refusal,
         depth: depth as u32,
         kind: kind as u32,
+        work: work(record, last),
         moment,
     }
 }
 
-/// What `fw_depths` answers and writes where this is the list.
-pub fn write(list: &Result<List, u32>, row: &mut [i64]) -> Listed {
-    let list = match list {
-        Ok(list) => list,
-        Err(refusal) => {
-            return Listed {
-                refusal: *refusal,
-                count: 0,
-            }
-        }
+/// What `fw_depths` answers of a record and writes where this is the list.
+pub fn write(record: &[u8], list: &Result<List, u32>, row: &mut [i64]) -> Listed {
+    let (refusal, count) = match list {
+        Ok(list) => (write_words(list.as_flattened(), row), list.len() as u32),
+        Err(refusal) => (*refusal, 0),
     };
-    let words = list.as_flattened();
-    let refusal = match row.get_mut(..words.len()) {
+    Listed {
+        refusal,
+        count,
+        work: work(record, |section| section.h.into()),
+    }
+}
+
+/// Writes the words of a list, or refuses.
+fn write_words(words: &[i64], row: &mut [i64]) -> u32 {
+    match row.get_mut(..words.len()) {
         _ if words.is_empty() => 14,
         None => 15,
         Some(start) => {
             start.copy_from_slice(words);
             0
         }
-    };
-    Listed {
-        refusal,
-        count: list.len() as u32,
     }
 }
