@@ -80,7 +80,8 @@ static double plain_turn(const section *s, record r, int calls)
 static void time_one(const section *s, record r, fw_first_depth first, int to_reach)
 {
     static double (*const turns[])(const section *, record, int) = {first_turn, list_turn, plain_turn};
-    int stresses = (int)first.work, looked = stresses / (s->h + s->m), calls = (STRESSES + stresses - 1) / stresses;
+    int stresses = (int)first.work, looked = stresses / (s->h + s->m);
+    int calls = (STRESSES + stresses - 1) / stresses;
     double best[3];
     for (int turn = 0; turn < TURNS; turn++)
         for (int side = 0; side < 3; side++) {
