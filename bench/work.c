@@ -31,7 +31,8 @@ typedef struct {
     double taken[CALLS];
 } timed_calls;
 
-static timed_calls timed[HEIGHTS][CASES];
+/* Those of one height after those of another. */
+static timed_calls timed[HEIGHTS * CASES];
 
 /* The imbalance hardly moves over an eighth of its depths (bench/near.c, level_section). */
 static section level_form(int h)
@@ -153,11 +154,11 @@ static void print_height(const timed_calls *of, int h)
 int main(void)
 {
     for (int i = 0; i < HEIGHTS; i++)
-        if (!ask_height(timed[i], heights[i]))
+        if (!ask_height(timed + i * CASES, heights[i]))
             return 1;
     for (int i = 0; i < ROUNDS * HEIGHTS * CASES; i++)
-        take_turns(&timed[0][0] + i % (HEIGHTS * CASES));
+        take_turns(timed + i % (HEIGHTS * CASES));
     for (int i = 0; i < HEIGHTS; i++)
-        print_height(timed[i], heights[i]);
+        print_height(timed + i * CASES, heights[i]);
     return 0;
 }

@@ -205,8 +205,8 @@ pub fn list_of(record: &[u8]) -> Result<List, u32> {
     Section::of(record).map(|section| list(&section))
 }
 
-/// The stresses of the imbalances at the depths from 1 to the last that is looked at: strips plus layers at each. None are taken of a section
-/// that is refused.
+/// The stresses of the imbalances at the depths from 1 to the last that is looked at: strips plus layers at each. None are taken of a
+/// section that is refused.
 fn work(record: &[u8], last: impl Fn(&Section) -> i64) -> u32 {
     let each = |section: &Section| i64::from(section.h) + section.layers.len() as i64;
     Section::of(record).map_or(0, |section| (last(&section) * each(&section)) as u32)
