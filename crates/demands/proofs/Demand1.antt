@@ -6,7 +6,7 @@ use mathlib.Core.List.{List, [], _++_}
 use native.Mathlib.Omega.{arith}
 use lib.IntN.{ℤ, pos}
 use lib.ListN.{length, replicate}
-use Rattle.arith.proofs.Answers.{of-answer, of-answers}
+use Rattle.arith.proofs.Answers.{of-answers}
 use Rattle.section.specs.declared.Layer.{Layer}
 use Rattle.section.specs.declared.Section.{Section}
 use Rattle.section.specs.declared.Added.{Added}
@@ -21,8 +21,8 @@ use Rattle.forces.specs.Answers.{gridRefusal, amountAnswer}
 use Rattle.depths.specs.declared.Listing.{Listing}
 use Rattle.depths.specs.declared.FirstDepth.{FirstDepth}
 use Rattle.depths.specs.Depths.{listed}
-use Rattle.depths.specs.Answers.{depthsRefusal, wholeWork, unlisted, noDepth, noFirst, listAnswer, rowAfter, firstAnswer}
-use Rattle.depths.proofs.Answers.{list-number, list-needed, list-none, first-number}
+use Rattle.depths.specs.Answers.{unlisted, listAnswer, rowAfter, firstAnswer}
+use Rattle.depths.proofs.Answers.{list-number, list-needed, list-none, of-first, first-number}
 use Rattle.depths.proofs.Shown.{row-kept}
 use Rattle.shear.specs.Shear.{shearRefusal, shearAnswer}
 use Rattle.book.specs.declared.BookAnswer.{BookAnswer}
@@ -42,9 +42,9 @@ use Rattle.demands.specs.Table.{First, bookLines, askedLines, loneLines,
 use Rattle.demands.specs.Demand1.{ByTable, Refuses, RefusesList, NoFirst, RefusesFirst, RefusesBytes, Demand1}
 use Rattle.demands.proofs.Free.{free}
 use Rattle.demands.proofs.Shapes.{sections, laws, points, amounts, listings, firsts, books, places, records, filings, writings, classes, alone, of-record}
-use Rattle.demands.proofs.Table.{exactly, never, book-first, asked-first, lone-first, section-first, layer-first, depth-first, list-first}
+use Rattle.demands.proofs.Table.{exactly, never, book-first, asked-first, lone-first, section-first, layer-first}
 use Rattle.demands.proofs.Table.{filed-first, add-first, write-first, write-lacks}
-use Rattle.demands.proofs.Table.{shear-first, class-first, strain-first, grid-first}
+use Rattle.demands.proofs.Table.{depth-first, list-first, shear-first, class-first, strain-first, grid-first}
 use Rattle.demands.proofs.Work.{first-took, face-took, list-took, face-list-took, first-beside, list-beside}
 
 -- ---- each answer
@@ -125,12 +125,8 @@ part-refused s i =
 -- ---- the first depth
 module _ (s : Section) {x : FirstDepth} (is : x ≡ firstAnswer s) where
   no-first : (x .refusal ≡ 0 → ⊥) → NoFirst x
-  unfolding firstAnswer
   no-first =
-      let P : FirstDepth → Type 0 = λ v. (v .refusal ≡ 0 → ⊥) → NoFirst v in
-      rw is
-      (of-answer P (sectionRefusal s) _ noFirst
-      (λ ok. of-answer P (depthsRefusal s) _ (noDepth (wholeWork s)) (λ e h. absurd (h refl)) (λ f h. (refl, refl, refl))) (λ f h. (refl, refl, refl)))
+      of-first (λ v. (v .refusal ≡ 0 → ⊥) → NoFirst v) s (λ f h. (refl, refl, refl)) (λ e h. (refl, refl, refl)) (λ e h. absurd (h refl)) is
 
   first-refuses : RefusesFirst (firstLines s) s x
   first-refuses =

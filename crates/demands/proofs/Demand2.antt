@@ -3,13 +3,13 @@ use Prim.Native.Nat.{ℕ, _-_, _≤_}
 use mathlib.Core.Path.{_≡_, refl, sym, ap, _∙_}
 use mathlib.Core.List.{List}
 use native.Mathlib.Nat.{add-sub-cancel-left}
+use native.Mathlib.Omega.{arith}
 use lib.IntN.{ℤ, pos}
 use lib.ListN.{length, take}
 use Rattle.arith.specs.Sums.{sumZ, after}
 use Rattle.arith.specs.Joined.{over}
 use Rattle.arith.proofs.Tests.{is-most}
 use Rattle.arith.proofs.Joined.{over-front}
-use Rattle.arith.proofs.Answers.{granted}
 use Rattle.section.specs.declared.Layer.{Layer}
 use Rattle.section.specs.declared.Section.{Section}
 use Rattle.section.specs.declared.Added.{Added}
@@ -40,8 +40,8 @@ use Rattle.section.specs.Amount.{answered}
 use Rattle.forces.proofs.Answers.{amount-is}
 use Rattle.depths.specs.declared.Listing.{Listing}
 use Rattle.depths.specs.declared.FirstDepth.{FirstDepth}
-use Rattle.depths.specs.Answers.{depthsRefusal, wholeWork, noDepth, listAnswer, rowAfter, firstAnswer}
-use Rattle.depths.proofs.Answers.{list-number, list-count, list-work, row-written}
+use Rattle.depths.specs.Answers.{listAnswer, rowAfter, firstAnswer}
+use Rattle.depths.proofs.Answers.{list-number, list-count, list-work, of-first, row-written}
 use Rattle.shear.specs.Shear.{resistance, shearRefusal, shearAnswer}
 use Rattle.shear.proofs.Theorems.{square-root, cube-root, axial-floor}
 use Rattle.book.specs.declared.BookAnswer.{BookAnswer}
@@ -104,8 +104,7 @@ module _ (s : Section) where
       (list-count s (length before) is ok, list-work s (length before) is ok, left ∙ row-written s before none)
 
   pub first-is : {x : FirstDepth} → x ≡ firstAnswer s → x .refusal ≡ 0 → FirstIs s x
-  unfolding firstAnswer
-  first-is is h = granted (λ (x : FirstDepth). x .refusal) (depthsRefusal s) _ (noDepth (wholeWork s)) refl (grants firsts (sectionRefusal s) _ is h .1) h .1
+  first-is = of-first (λ x. x .refusal ≡ 0 → FirstIs s x) s (λ f h. absurd (f h)) (λ e h. absurd (omega arith)) (λ e h. refl)
 
 module _ (s : List ℕ) where
   book-is : {x : BookAnswer} → x ≡ bookAnswer s → x .refusal ≡ 0 → x .count ≡ countOf s

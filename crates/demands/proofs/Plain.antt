@@ -33,7 +33,8 @@ use Rattle.drawn.specs.Drawn as Drawn
 use Rattle.forces.specs.Forces.{stripStress, lever, stripForce, barForce, stripMoment, barMoment, forces, moments, imbalance, moment}
 use Rattle.forces.specs.Answers.{gridRefusal, amountAnswer, imbalanceAnswer, momentAnswer}
 use Rattle.depths.specs.Depths.{entryOf, kindOf, kindAt, listTo, listed, written}
-use Rattle.depths.specs.Answers.{depthsRefusal, listRefusal, wholeWork, unlisted, noDepth, noFirst, lookedAtAll, listAnswer, rowAfter, firstOfList, firstAnswer}
+use Rattle.depths.specs.Answers.{depthsRefusal, listRefusal, wholeWork, unlisted, noDepth, noFirst, lookedAtAll}
+use Rattle.depths.specs.Answers.{listAnswer, rowAfter, firstOfList, firstAnswer}
 use Rattle.shear.specs.Shear.{kOf, cOf, atLeastZero, axialShare, concreteShare, kfOf, fibreShare, stirrups, struts, resistanceUnder, resistance, shearRefusal, shearAnswer}
 use Rattle.shear.proofs.Flange.{kf-without, kf-level}
 use Rattle.record.specs.Record.{recordSize}
@@ -151,7 +152,8 @@ module _ {s : Section} (p : Plain s) where
 
   pub first-alike : firstAnswer s ≡ firstAnswer (rectangle s)
   unfolding firstAnswer
-  first-alike = λ j. unlessRefused (p .right j) (unlessRefused (none-alike j) (firstOfList s (entryOf (list-same j) 0)) (noDepth (wholeWork s))) noFirst
+  first-alike = λ j. let inner = unlessRefused (none-alike j) (firstOfList s (entryOf (list-same j) 0)) (noDepth (wholeWork s)) in
+      unlessRefused (p .right j) inner noFirst
 
   number-alike : (room : ℕ) → listRefusal s room ≡ listRefusal (rectangle s) room
   unfolding listRefusal

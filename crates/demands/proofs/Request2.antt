@@ -28,7 +28,7 @@ use Rattle.record.specs.Record.{recordRefusal, sectionIn}
 use Rattle.record.specs.Alone.{StandsAlone}
 use Rattle.record.proofs.Alone.{record-stands}
 use Rattle.panel.specs.Face.{drawnOf, imbalanceOf, momentOf, listOf, rowOf, firstDepthOf, shearOf}
-use Rattle.demands.specs.Request2.{TwoDepths, deepestLaw, OneSteel, ListKept, Request2}
+use Rattle.demands.specs.Request2.{TwoDepths, deepestLaw, OneSteel, ListKept, FirstKept, Request2}
 use Rattle.demands.proofs.Shapes.{points, amounts, firsts, grants}
 use Rattle.demands.proofs.Demand2.{law-is, point-is, first-is, shear-is}
 
@@ -77,7 +77,7 @@ module _ {s : Section} (o : OneSteel s) where
     λ h. left ∙ row-written s before (sym (list-number s (length before) is) ∙ h) ∙ ap (λ es. written es before) same-list,
   )
 
-  first-kept : {x : FirstDepth} → x ≡ firstAnswer s → x .refusal ≡ 0 → x ≡ firstOfList s (entryOf (listedUnder (deepestLaw s) s) 0)
+  first-kept : {x : FirstDepth} → x ≡ firstAnswer s → x .refusal ≡ 0 → FirstKept s x
   first-kept is h = first-is s is h ∙ ap (λ es. firstOfList s (entryOf es 0)) same-list
 
 list-of :

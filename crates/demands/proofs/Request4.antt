@@ -34,7 +34,8 @@ use Rattle.panel.specs.Face.{drawnOf, imbalanceOf, momentOf, listOf, rowOf, fir
 use Rattle.demands.specs.Table.{_unless_}
 use Rattle.demands.specs.Demand1.{ByTable}
 use Rattle.demands.specs.Demand2.{ListIs}
-use Rattle.demands.specs.Request4.{plainLines, Flat, rectangle, Level, Two, plainImbalance, plainMoment, plainList, plainShear, ListBefore, rib, ribRecord, Request4}
+use Rattle.demands.specs.Request4.{plainLines, Flat, rectangle, Level, Two, plainImbalance, plainMoment, plainShear}
+use Rattle.demands.specs.Request4.{ListBefore, FirstBefore, rib, ribRecord, Request4}
 use Rattle.demands.proofs.Demand2.{list-is, first-is, list-of, shear-is}
 use Rattle.demands.proofs.Shapes.{amounts, firsts, grants}
 use Rattle.demands.proofs.Table.{exactly, without-line, section-first}
@@ -67,7 +68,7 @@ module _ {s : Section} (p : Plain s) where
   list-before : (before : List ℤ) (x : Listing) {after : List ℤ} → ListIs s before x after → ListBefore s before x after
   list-before before x is = let same = list-plain p in (is .0 ∙ ap length same, is .2 ∙ ap (λ es. written es before) same)
 
-  first-before : {x : FirstDepth} → x ≡ firstAnswer s → x .refusal ≡ 0 → x ≡ firstOfList s (entryOf (plainList s) 0)
+  first-before : {x : FirstDepth} → x ≡ firstAnswer s → x .refusal ≡ 0 → FirstBefore s x
   first-before is h = first-is s is h ∙ ap (λ es. firstOfList s (entryOf es 0)) (list-plain p)
 
   shear-before : {x : Amount} → x ≡ shearAnswer s → x .refusal ≡ 0 → x .amount ≡ pos (plainShear s)

@@ -32,7 +32,7 @@ use Rattle.depths.proofs.Shown.{read-at}
 use Rattle.record.specs.Record.{recordRefusal, sectionIn}
 use Rattle.panel.specs.Face.{listOf, rowOf, firstDepthOf}
 use Rattle.demands.specs.Table.{firstLines, loneLines}
-use Rattle.demands.specs.Request5.{Heads, Shallowest, plain, Gives, FirstFigures, Request5}
+use Rattle.demands.specs.Request5.{Heads, Shallowest, record0, inTension, Gives, FirstFigures, Request5}
 use Rattle.demands.proofs.Shapes.{firsts, grants}
 use Rattle.demands.proofs.Table.{never, lone-first, depth-first}
 use Rattle.demands.proofs.Demand2.{first-is}
@@ -97,15 +97,16 @@ none-to s n e x from to =
     rw here at none
 
 gives :
-    (s : Section) (n k w : ℕ) (z : ℤ) → sectionRefusal s ≡ 0 → n < lastDepth s → sumN n (λ i. kindAt s (i + 1)) ≡ 0 → k ≡ kindAt s (n + 1) → 0 < k
-    → w ≡ workTo s (lastLooked (n + 1) k) → z ≡ moment s (n + 1) → Gives s (n + 1) k w z
-gives s n k w z ok inside none kind some took is κs a x e p t = p ∙ ap firstAnswer t ∙ sym (first-at s ok (omega arith) (omega arith) kind some (none-to s n none) took is)
+    (s : Section) (n k w : ℕ) (z : ℤ) → sectionRefusal s ≡ 0 → n < lastDepth s → sumN n (λ i. kindAt s (i + 1)) ≡ 0
+    → k ≡ kindAt s (n + 1) → 0 < k → w ≡ workTo s (lastLooked (n + 1) k) → z ≡ moment s (n + 1) → Gives s (n + 1) k w z
+gives s n k w z ok inside none kind some took is κs a x e p t =
+    p ∙ ap firstAnswer t ∙ sym (first-at s ok (omega arith) (omega arith) kind some (none-to s n none) took is)
 
 figures : FirstFigures
 unfolding sectionRefusal layersRight rise layersFrom midRight kindAt imbalance moment forces moments stripForce stripMoment strainScale strip rounded size compressed stretched lawBy s1Of e1Of modulus flexural edition effectiveDepth limitDepth sumN sumZ
 figures = (
-  gives (plain 1000 100 30 500 3700 4500 (pos 0)) 13 2 1500 (pos 14476473000) refl (omega arith) refl refl (omega arith) refl refl,
-  gives (plain 1000 58 50 400 0 0 (negℤ (pos 3378))) 0 1 58 (negℤ (pos 175816000)) refl (omega arith) refl refl (omega arith) refl refl,
+  gives record0 13 2 1500 (pos 14476473000) refl (omega arith) refl refl (omega arith) refl refl,
+  gives inTension 0 1 58 (negℤ (pos 175816000)) refl (omega arith) refl refl (omega arith) refl refl,
 )
 
 pub request5 : Request5

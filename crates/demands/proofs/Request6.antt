@@ -2,7 +2,6 @@
 use Prim.Native.Nat.{ℕ}
 use mathlib.Core.Path.{_≡_, refl}
 use mathlib.Core.List.{List}
-use lib.IntN.{pos}
 use Rattle.section.specs.Section.{layersFrom, rise, layersRight}
 use Rattle.section.specs.Refusal.{midRight, sectionRefusal}
 use Rattle.section.specs.Accepted.{Accepted}
@@ -13,17 +12,18 @@ use Rattle.record.specs.Record.{sectionIn}
 use Rattle.record.specs.Alone.{StandsAlone}
 use Rattle.record.proofs.Alone.{record-stands}
 use Rattle.panel.specs.Face.{listOf}
-use Rattle.demands.specs.Request5.{plain}
+use Rattle.demands.specs.Request5.{record0}
 use Rattle.demands.specs.Request6.{ceiling, ListFigure, Request6}
 use Rattle.demands.proofs.Work.{first-took, face-took, list-took, face-list-took}
 
-face-accepted : (r : List ℕ) (room : ℕ) {x : Listing} → x ≡ listOf r room → StandsAlone r → Accepted (sectionIn r) → x .work ≡ ceiling (sectionIn r)
+face-accepted :
+    (r : List ℕ) (room : ℕ) {x : Listing} → x ≡ listOf r room → StandsAlone r → Accepted (sectionIn r) → x .work ≡ ceiling (sectionIn r)
 unfolding listOf
 face-accepted r room is alone a = list-work (sectionIn r) room (rw (record-stands r .1 alone) at is) (accepts (sectionIn r) a)
 
 figure : ListFigure
 unfolding sectionRefusal layersRight rise layersFrom midRight
-figure κs a x e p t = list-work (plain 1000 100 30 500 3700 4500 (pos 0)) _ (rw t at (p .0)) refl
+figure κs a x e p t = list-work record0 _ (rw t at (p .0)) refl
 
 pub request6 : Request6
 request6 = record {

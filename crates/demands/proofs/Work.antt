@@ -14,8 +14,9 @@ use Rattle.section.specs.Refusal.{line, firstOf, sectionRefusal}
 use Rattle.depths.specs.declared.Listing.{Listing}
 use Rattle.depths.specs.declared.FirstDepth.{FirstDepth}
 use Rattle.depths.specs.Depths.{entryOf, listed}
-use Rattle.depths.specs.Answers.{depthsRefusal, listRefusal, wholeWork, unlisted, noDepth, noFirst, listAnswer, firstOfList, firstAnswer}
-use Rattle.depths.proofs.Answers.{some-listed}
+use Rattle.depths.specs.Answers.{depthsRefusal, listRefusal, wholeWork, unlisted, noDepth, noFirst, lookedAtAll}
+use Rattle.depths.specs.Answers.{listAnswer, firstOfList, firstAnswer}
+use Rattle.depths.proofs.Answers.{of-first, some-listed}
 use Rattle.depths.proofs.Theorems.{first-balances, one-or-two, looked-inside}
 use Rattle.record.specs.Record.{recordRefusal, sectionIn}
 use Rattle.panel.specs.Face.{listOf, firstDepthOf}
@@ -37,21 +38,13 @@ module _ (s : Section) where
   }
 
   -- by 14: every depth was
-  fourteen : sectionRefusal s ≡ 0 → (depthsRefusal s ≡ 0 → ⊥) → depthsRefusal s ≡ 14
-  unfolding depthsRefusal
-  fourteen ok = rw ok (pick (ltb 0 (length (listed s))))
-    where
-      pick : (t : Bool) → (line t 14 0 ≡ 0 → ⊥) → line t 14 0 ≡ 14
-      pick true f = absurd (f refl)
-      pick false f = refl
-
-  none-found : (n : ℕ) → n ≡ 14 → FirstTook s (noDepth (wholeWork s) n)
-  none-found n e = record {
-    kind-1 = λ z. absurd (omega arith);
-    kind-2 = λ z. absurd (omega arith);
-    kinds = λ z. absurd (omega arith);
-    none = λ z. refl;
-    refused = λ z h. absurd (h e);
+  none-found : FirstTook s (noDepth (wholeWork s) 14)
+  none-found = record {
+    kind-1 = λ e. absurd (omega arith);
+    kind-2 = λ e. absurd (omega arith);
+    kinds = λ e. absurd (omega arith);
+    none = λ e. refl;
+    refused = λ z h. absurd (h refl);
     most = omega arith;
   }
 
@@ -68,12 +61,7 @@ module _ (s : Section) where
       }
 
   pub first-took : {x : FirstDepth} → x ≡ firstAnswer s → FirstTook s x
-  unfolding firstAnswer
-  first-took is =
-      rw is
-      (of-answer (FirstTook s) (sectionRefusal s) _ noFirst
-      (λ ok. of-answer (FirstTook s) (depthsRefusal s) _ (noDepth (wholeWork s)) found (λ f. none-found _ (fourteen ok f)))
-      (unlooked (sectionLines s) refl (section-first s)))
+  first-took = of-first (FirstTook s) s (unlooked (sectionLines s) refl (section-first s)) (λ e. none-found) found
 
 -- 6 first
 pub face-took : (r : List ℕ) {x : FirstDepth} → x ≡ firstDepthOf r → FirstTook (sectionIn r) x
@@ -87,7 +75,7 @@ face-took r is =
 module _ (s : Section) where
   unlooked-list : (ls : List Line) → lacks 14 ls ≡ true → lacks 15 ls ≡ true → {n : ℕ} → First ls n → (n ≡ 0 → ⊥) → ListTook s (unlisted n)
   unlooked-list ls t u first f = record {
-    whole = ⊎-elim (λ e. absurd (f e)) (⊎-elim (λ e. absurd (never 14 ls (omega arith) t first e)) (λ e. absurd (never 15 ls (omega arith) u first e)));
+    whole = λ w. absurd (⊎-elim f (⊎-elim (never 14 ls (omega arith) t first) (never 15 ls (omega arith) u first)) w);
     refused = λ z h k. refl;
     most = omega arith;
   }
@@ -97,13 +85,13 @@ module _ (s : Section) where
   list-took room is =
       rw is
       (of-answer (ListTook s) (sectionRefusal s) _ unlisted
-      (λ ok. rw ok (record { whole = λ w. refl; refused = λ z h k. absurd (pick (ltb 0 (length (listed s))) (leb (3 * length (listed s)) room) z h k); most = omega arith }))
+      (λ ok. rw ok (looked (ltb 0 (length (listed s))) (leb (3 * length (listed s)) room)))
       (unlooked-list (sectionLines s) refl refl (section-first s)))
     where
-      pick : (t u : Bool) → let n = firstOf (line t 14 0) (line u 15 0) in (n ≡ 0 → ⊥) → (n ≡ 14 → ⊥) → (n ≡ 15 → ⊥) → ⊥
-      pick true true z h k = z refl
-      pick true false z h k = k refl
-      pick false u z h k = h refl
+      looked : (t u : Bool) → ListTook s (lookedAtAll s (firstOf (line t 14 0) (line u 15 0)) (length (listed s)))
+      looked true true = record { whole = λ w. refl; refused = λ z. absurd (z refl); most = omega arith }
+      looked true false = record { whole = λ w. refl; refused = λ z h k. absurd (k refl); most = omega arith }
+      looked false u = record { whole = λ w. refl; refused = λ z h. absurd (h refl); most = omega arith }
 
 pub face-list-took : (r : List ℕ) (room : ℕ) {x : Listing} → x ≡ listOf r room → ListTook (sectionIn r) x
 unfolding listOf
@@ -114,7 +102,8 @@ face-list-took r room is =
 
 -- ---- beside a refusal: no first depth is refused by 15
 pub first-beside :
-    (s : Section) (ls : List Line) → lacks 15 ls ≡ true → {x : FirstDepth} → ByTable ls (x .refusal) → FirstTook s x → WorkBeside s (x .refusal) (x .work)
+    (s : Section) (ls : List Line) → lacks 15 ls ≡ true → {x : FirstDepth} → ByTable ls (x .refusal) → FirstTook s x
+    → WorkBeside s (x .refusal) (x .work)
 first-beside s ls t {x} by w = record {
   whole = ⊎-elim (w .none) (λ e. absurd (never 15 ls (omega arith) t (by (x .refusal) .0 refl) e));
   none = λ z h k. w .refused z h;

@@ -12,6 +12,7 @@ use Rattle.law.specs.Law.{limitDepth, lawWith}
 use Rattle.drawn.specs.Drawn.{pointAt}
 use Rattle.forces.specs.Forces.{imbalanceUnder, moments}
 use Rattle.depths.specs.declared.Listing.{Listing}
+use Rattle.depths.specs.declared.FirstDepth.{FirstDepth}
 use Rattle.depths.specs.Depths.{entryOf, listedUnder, written}
 use Rattle.depths.specs.Answers.{firstOfList}
 use Rattle.shear.specs.Shear.{resistanceUnder}
@@ -41,6 +42,9 @@ pub record OneSteel (s : Section) : Type 0 where
 abbrev pub ListKept : Section → List ℤ → Listing → List ℤ → Type 0
 ListKept s before x after = (x .count ≡ length (listedUnder (deepestLaw s) s)) × (x .refusal ≡ 0 → after ≡ written (listedUnder (deepestLaw s) s) before)
 
+abbrev pub FirstKept : Section → FirstDepth → Type 0
+FirstKept s x = x ≡ firstOfList s (entryOf (listedUnder (deepestLaw s) s) 0)
+
 pub record Request2 : Type 0 where
   pub without-bars : Every.law-of (λ s x. x .refusal ≡ 0 → s .count ≡ 0 → (x .law .d ≡ s .h) × (x .law .limit ≡ s .h))
   pub with-bars : Every.law-of (λ s x. x .refusal ≡ 0 → 0 < s .count → TwoDepths s (x .law))
@@ -50,12 +54,12 @@ pub record Request2 : Type 0 where
   pub imbalance : Every.imbalance (λ s d x. OneSteel s → x .refusal ≡ 0 → x .amount ≡ imbalanceUnder (deepestLaw s) s d)
   pub moment : Every.moment (λ s d x. OneSteel s → x .refusal ≡ 0 → x .amount ≡ moments (deepestLaw s) s d)
   pub depths : Every.depths (λ s before x after. OneSteel s → ListKept s before x after)
-  pub first : Every.first (λ s x. OneSteel s → x .refusal ≡ 0 → x ≡ firstOfList s (entryOf (listedUnder (deepestLaw s) s) 0))
+  pub first : Every.first (λ s x. OneSteel s → x .refusal ≡ 0 → FirstKept s x)
   pub shear : Every.shear (λ s x. OneSteel s → x .refusal ≡ 0 → x .amount ≡ pos (resistanceUnder (deepestLaw s) s))
   -- and by the C face
   pub fw-draw : Every.fw-draw (λ part e x. OneSteel (sectionIn part) → x .refusal ≡ 0 → x .point ≡ pointAt (deepestLaw (sectionIn part)) e)
   pub fw-imbalance : Every.fw-imbalance (λ part d x. OneSteel (sectionIn part) → x .refusal ≡ 0 → x .amount ≡ imbalanceUnder (deepestLaw (sectionIn part)) (sectionIn part) d)
   pub fw-moment : Every.fw-moment (λ part d x. OneSteel (sectionIn part) → x .refusal ≡ 0 → x .amount ≡ moments (deepestLaw (sectionIn part)) (sectionIn part) d)
   pub fw-depths : Every.fw-depths (λ part before x after. StandsAlone part → OneSteel (sectionIn part) → ListKept (sectionIn part) before x after)
-  pub fw-first : Every.fw-first (λ part x. OneSteel (sectionIn part) → x .refusal ≡ 0 → x ≡ firstOfList (sectionIn part) (entryOf (listedUnder (deepestLaw (sectionIn part)) (sectionIn part)) 0))
+  pub fw-first : Every.fw-first (λ part x. OneSteel (sectionIn part) → x .refusal ≡ 0 → FirstKept (sectionIn part) x)
   pub fw-shear : Every.fw-shear (λ part x. OneSteel (sectionIn part) → x .refusal ≡ 0 → x .amount ≡ pos (resistanceUnder (deepestLaw (sectionIn part)) (sectionIn part)))

@@ -15,6 +15,7 @@ use Rattle.law.specs.Law.{lawOf}
 use Rattle.law.specs.Stress.{rounded}
 use Rattle.forces.specs.Forces.{stripStress, barForce, barMoment}
 use Rattle.depths.specs.declared.Listing.{Listing}
+use Rattle.depths.specs.declared.FirstDepth.{FirstDepth}
 use Rattle.depths.specs.Depths.{Entry, entryOf, kindOf, listTo, written}
 use Rattle.depths.specs.Answers.{firstOfList}
 use Rattle.shear.specs.Shear.{kOf, cOf, atLeastZero, kfOf, stirrups, struts}
@@ -106,6 +107,9 @@ plainLines s =
 abbrev pub ListBefore : Section → List ℤ → Listing → List ℤ → Type 0
 ListBefore s before x after = (x .count ≡ length (plainList s)) × (after ≡ written (plainList s) before)
 
+abbrev pub FirstBefore : Section → FirstDepth → Type 0
+FirstBefore s x = x ≡ firstOfList s (entryOf (plainList s) 0)
+
 -- ---- the request's rib: its record, area 128000, and kf 1266 at its d of 360
 abbrev pub rib : Section
 rib = record {
@@ -158,12 +162,12 @@ pub record Request4 : Type 0 where
   pub imbalance-before : Every.imbalance (λ s d x. Flat s → x .refusal ≡ 0 → x .amount ≡ plainImbalance s d)
   pub moment-before : Every.moment (λ s d x. Flat s → x .refusal ≡ 0 → x .amount ≡ plainMoment s d)
   pub depths-before : Every.depths (λ s before x after. Flat s → x .refusal ≡ 0 → ListBefore s before x after)
-  pub first-before : Every.first (λ s x. Flat s → x .refusal ≡ 0 → x ≡ firstOfList s (entryOf (plainList s) 0))
+  pub first-before : Every.first (λ s x. Flat s → x .refusal ≡ 0 → FirstBefore s x)
   pub shear-before : Every.shear (λ s x. Flat s → x .refusal ≡ 0 → x .amount ≡ pos (plainShear s))
   pub fw-imbalance-before : Every.fw-imbalance (λ r d x. Flat (sectionIn r) → x .refusal ≡ 0 → x .amount ≡ plainImbalance (sectionIn r) d)
   pub fw-moment-before : Every.fw-moment (λ r d x. Flat (sectionIn r) → x .refusal ≡ 0 → x .amount ≡ plainMoment (sectionIn r) d)
   pub fw-depths-before : Every.fw-depths (λ r before x after. Flat (sectionIn r) → x .refusal ≡ 0 → ListBefore (sectionIn r) before x after)
-  pub fw-first-before : Every.fw-first (λ r x. Flat (sectionIn r) → x .refusal ≡ 0 → x ≡ firstOfList (sectionIn r) (entryOf (plainList (sectionIn r)) 0))
+  pub fw-first-before : Every.fw-first (λ r x. Flat (sectionIn r) → x .refusal ≡ 0 → FirstBefore (sectionIn r) x)
   pub fw-shear-before : Every.fw-shear (λ r x. Flat (sectionIn r) → x .refusal ≡ 0 → x .amount ≡ pos (plainShear (sectionIn r)))
   -- bf = b: a rib answers as the rectangle does
   pub level-refusal : Alike Every.section-refusal Level

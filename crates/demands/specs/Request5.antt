@@ -49,13 +49,18 @@ plain b h fck fyk feq2 feq3 load = record {
   layers = replicate 8 noLayer;
 }
 
+abbrev pub record0 : Section
+record0 = plain 1000 100 30 500 3700 4500 (pos 0)
+
+abbrev pub inTension : Section
+inTension = plain 1000 58 50 400 0 0 (negℤ (pos 3378))
+
 abbrev pub Gives : Section → (depth kind work : ℕ) → ℤ → Type 0
-Gives s depth kind work moment = Every.first (λ t x. t ≡ s → x ≡ record { refusal = 0; depth = depth; kind = kind; work = work; moment = moment })
+Gives s depth kind work moment =
+    Every.first (λ t x. t ≡ s → x ≡ record { refusal = 0; depth = depth; kind = kind; work = work; moment = moment })
 
 abbrev pub FirstFigures : Type 0
-FirstFigures =
-    Gives (plain 1000 100 30 500 3700 4500 (pos 0)) 14 2 1500 (pos 14476473000)
-    × Gives (plain 1000 58 50 400 0 0 (negℤ (pos 3378))) 1 1 58 (negℤ (pos 175816000))
+FirstFigures = Gives record0 14 2 1500 (pos 14476473000) × Gives inTension 1 1 58 (negℤ (pos 175816000))
 
 pub record Request5 : Type 0 where
   pub first : Every.first (λ s x. Every.depths (λ t before y after. t ≡ s → Heads x y after))

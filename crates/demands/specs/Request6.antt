@@ -2,7 +2,6 @@
 use Prim.Native.Nat.{ℕ, _+_, _*_, _≤_}
 use mathlib.Core.Path.{_≡_}
 use mathlib.Core.Logic.{_⊎_}
-use lib.IntN.{pos}
 use Rattle.section.specs.declared.Section.{Section}
 use Rattle.section.specs.Accepted.{Accepted}
 use Rattle.depths.specs.declared.FirstDepth.{FirstDepth}
@@ -10,7 +9,7 @@ use Rattle.depths.specs.declared.Listing.{Listing}
 use Rattle.record.specs.Record.{sectionIn}
 use Rattle.record.specs.Alone.{StandsAlone}
 use Rattle.demands.specs.Every as Every
-use Rattle.demands.specs.Request5.{plain}
+use Rattle.demands.specs.Request5.{record0}
 
 -- h (h + m), for all the depths of a section
 abbrev pub ceiling : Section → ℕ
@@ -35,7 +34,7 @@ pub record ListTook (s : Section) (x : Listing) : Type 0 where
 
 -- ---- the request's figure of a list: document 01's record 0. Those of a first depth stand in Request5
 abbrev pub ListFigure : Type 0
-ListFigure = Every.depths (λ s before x after. s ≡ plain 1000 100 30 500 3700 4500 (pos 0) → x .work ≡ 10000)
+ListFigure = Every.depths (λ s before x after. s ≡ record0 → x .work ≡ 10000)
 
 pub record Request6 : Type 0 where
   pub first : Every.first (λ s x. FirstTook s x)
@@ -44,5 +43,6 @@ pub record Request6 : Type 0 where
   pub fw-depths : Every.fw-depths (λ part before x after. ListTook (sectionIn part) x)
   -- so that of every accepted section
   pub accepted : Every.depths (λ s before x after. Accepted s → x .work ≡ ceiling s)
-  pub fw-accepted : Every.fw-depths (λ part before x after. StandsAlone part → Accepted (sectionIn part) → x .work ≡ ceiling (sectionIn part))
+  pub fw-accepted :
+      Every.fw-depths (λ part before x after. StandsAlone part → Accepted (sectionIn part) → x .work ≡ ceiling (sectionIn part))
   pub figure : ListFigure

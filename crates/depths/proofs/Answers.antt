@@ -10,7 +10,7 @@ use lib.IntN.{ℤ}
 use lib.ListN.{length}
 use borrow.Author.Tests.{ltb-false, ne-eqb, lt-ltb, lt-leb, le-leb}
 use Rattle.arith.proofs.Tests.{is-less}
-use Rattle.arith.proofs.Answers.{of-answer, bears}
+use Rattle.arith.proofs.Answers.{of-answer}
 use Rattle.section.specs.declared.Section.{Section}
 use Rattle.section.specs.Refusal.{line, firstOf, sectionRefusal}
 use Rattle.section.specs.Has.{lastDepth}
@@ -22,12 +22,13 @@ use Rattle.forces.specs.Forces.{moment}
 use Rattle.depths.specs.declared.Listing.{Listing}
 use Rattle.depths.specs.declared.FirstDepth.{FirstDepth}
 use Rattle.depths.specs.declared.Found.{Found}
-use Rattle.depths.specs.Depths.{kindAt, listed, written}
-use Rattle.depths.specs.Answers.{depthsRefusal, listRefusal, workTo, wholeWork, lastLooked, unlisted, noDepth, noFirst, lookedAtAll, listAnswer, rowAfter, firstAnswer}
+use Rattle.depths.specs.Depths.{entryOf, kindAt, listed, written}
+use Rattle.depths.specs.Answers.{depthsRefusal, listRefusal, workTo, wholeWork, lastLooked, unlisted, noDepth, noFirst, lookedAtAll}
+use Rattle.depths.specs.Answers.{listAnswer, rowAfter, firstOfList, firstAnswer}
 use Rattle.depths.specs.Code.{NoneTo, Next}
 use Rattle.depths.proofs.Listed.{empty-list, list-first}
 
--- the first depth that has a kind, with it, with its moment and with the work up to the last depth looked at for it, is the first depth's answer
+-- the first depth that has a kind, with its moment and with the work up to the last depth looked at for it, is the first depth's answer
 pub first-at :
     (s : Section) → sectionRefusal s ≡ 0 → {x k w : ℕ} {z : ℤ} → 1 ≤ x → x ≤ lastDepth s → k ≡ kindAt s x → 0 < k → NoneTo s 1 x
     → w ≡ workTo s (lastLooked x k) → z ≡ moment s x → record { refusal = 0; depth = x; kind = k; work = w; moment = z } ≡ firstAnswer s
@@ -35,7 +36,8 @@ unfolding firstAnswer depthsRefusal
 first-at s ok {x} from to kind some none took e =
     let l = list-first (kindAt s) (moment s) (lastDepth s) x from to (λ z. omega arith) none in
     let work = took ∙ ap (λ k. workTo s (lastLooked x k)) kind in
-    rw (ok, l .1, lt-ltb 0 (suc (length (l .0))) (omega arith)) (λ j. record { refusal = 0; depth = x; kind = kind j; work = work j; moment = e j })
+    rw (ok, l .1, lt-ltb 0 (suc (length (l .0))) (omega arith))
+    (λ j. record { refusal = 0; depth = x; kind = kind j; work = work j; moment = e j })
 
 module _ (s : Section) (a : LawAnswer) (is : a ≡ lawAnswer s) where
   module _ (row : List ℤ) where
@@ -80,7 +82,8 @@ module _ (s : Section) (a : LawAnswer) (is : a ≡ lawAnswer s) where
     pub first-none : lastDepth s < f .depth → w ≡ wholeWork s → noDepth w 14 ≡ firstAnswer s
     unfolding firstAnswer depthsRefusal
     first-none past took =
-        rw (no-refusal s is ok, empty-list (kindAt s) (moment s) (lastDepth s) (λ x low high. next .none x low (omega arith))) (λ j. noDepth (took j) 14)
+        rw (no-refusal s is ok, empty-list (kindAt s) (moment s) (lastDepth s) (λ x low high. next .none x low (omega arith)))
+        (λ j. noDepth (took j) 14)
 
     pub first-found :
         f .depth ≤ lastDepth s → w ≡ workTo s (f .looked) → {z : ℤ} → z ≡ moment s (f .depth)
@@ -131,12 +134,29 @@ pub some-listed : (s : Section) → depthsRefusal s ≡ 0 → 0 < length (listed
 unfolding depthsRefusal
 some-listed s none = passes 13 0 (is-less 0 (length (listed s))) (none-of (sectionRefusal s) _ none .1) .0
 
-pub first-number : (s : Section) {x : FirstDepth} → x ≡ firstAnswer s → x .refusal ≡ depthsRefusal s
-unfolding firstAnswer depthsRefusal
-first-number s is =
+fourteen : (s : Section) → sectionRefusal s ≡ 0 → (depthsRefusal s ≡ 0 → ⊥) → depthsRefusal s ≡ 14
+unfolding depthsRefusal
+fourteen s ok = rw ok (pick (ltb 0 (length (listed s))))
+  where
+    pick : (t : Bool) → (line t 14 0 ≡ 0 → ⊥) → line t 14 0 ≡ 14
+    pick true f = absurd (f refl)
+    pick false f = refl
+
+-- it is one of three: the section is refused, no depth is listed, or the first is answered
+pub of-first :
+    (P : FirstDepth → Type 0) (s : Section) → ((sectionRefusal s ≡ 0 → ⊥) → P (noFirst (sectionRefusal s)))
+    → (depthsRefusal s ≡ 14 → P (noDepth (wholeWork s) 14)) → (depthsRefusal s ≡ 0 → P (firstOfList s (entryOf (listed s) 0)))
+    → {x : FirstDepth} → x ≡ firstAnswer s → P x
+unfolding firstAnswer
+of-first P s refused none found is =
     rw is
-    (of-answer (λ (x : FirstDepth). x .refusal ≡ depthsRefusal s) (sectionRefusal s) _ noFirst
-    (λ e. bears (λ (x : FirstDepth). x .refusal) (depthsRefusal s) _ (noDepth (wholeWork s)) refl refl) (λ h. rw (ne-eqb (sectionRefusal s) 0 h)))
+    (of-answer P (sectionRefusal s) _ noFirst
+    (λ ok. of-answer P (depthsRefusal s) _ (noDepth (wholeWork s)) found (λ f. let e = fourteen s ok f in rw e (none e)))
+    refused)
+
+pub first-number : (s : Section) {x : FirstDepth} → x ≡ firstAnswer s → x .refusal ≡ depthsRefusal s
+unfolding depthsRefusal
+first-number s = of-first (λ x. x .refusal ≡ depthsRefusal s) s (λ f. rw (ne-eqb (sectionRefusal s) 0 f)) (λ e. sym e) (λ e. sym e)
 
 pub row-written : (s : Section) (row : List ℤ) → listRefusal s (length row) ≡ 0 → rowAfter s row ≡ written (listed s) row
 unfolding rowAfter

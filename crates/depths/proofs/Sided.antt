@@ -87,7 +87,9 @@ module _ (s : Section) (x : ℕ) where
   -- the last depth has not kind 2
   pub two-inside : kindAt s x ≡ 2 → x < lastDepth s
   unfolding kindAt
-  two-inside e = ⊎-elim (λ less. less) (λ past. absurd (pick (eqb (natAbs (imbalance s x)) 0) (rw (le-ltb x (lastDepth s) past) at e))) (less-or-not x (lastDepth s))
+  two-inside e =
+      ⊎-elim (λ less. less) (λ past. absurd (pick (eqb (natAbs (imbalance s x)) 0) (rw (le-ltb x (lastDepth s) past) at e)))
+      (less-or-not x (lastDepth s))
     where
       pick : (t : Bool) → cond {A = ℕ} t 1 0 ≡ 2 → ⊥
       pick true e = omega arith

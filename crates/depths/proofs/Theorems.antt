@@ -105,7 +105,10 @@ first-shallowest s some x from to =
 -- ---- 5. what balances has kind 1 or 2, and the last depth that is looked at for it is on the grid
 module _ (s : Section) {e : Entry} (b : Balances s e) where
   pub one-or-two : (e .kind ≡ 1) ⊎ (e .kind ≡ 2)
-  one-or-two = ⊎-elim (λ two. inr two) (λ less. inl (omega (arith, b .some))) (eq-or-lt-of-le {n = e .kind} {m = 2} (omega (arith, b .kind, kind-most s (e .depth))))
+  one-or-two =
+      ⊎-elim (λ two. inr two) (λ less. inl (omega (arith, b .some)))
+      (eq-or-lt-of-le {n = e .kind} {m = 2} (omega (arith, b .kind, kind-most s (e .depth))))
 
   pub looked-inside : lastLooked (e .depth) (e .kind) ≤ lastDepth s
-  looked-inside = ⊎-elim (λ one. rw one (b .to)) (λ two. rw two (omega (arith, two-inside s (e .depth) (omega (arith, b .kind))))) one-or-two
+  looked-inside =
+      ⊎-elim (λ one. rw one (b .to)) (λ two. rw two (omega (arith, two-inside s (e .depth) (omega (arith, b .kind))))) one-or-two

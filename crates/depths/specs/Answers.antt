@@ -57,7 +57,9 @@ rowAfter s row = cond (eqb (listRefusal s (length row)) 0) (written (listed s) r
 
 -- document 02 [5]: the first entry of the list alone, which needs no row
 abbrev pub firstOfList : Section → Entry → FirstDepth
-firstOfList s e = record { refusal = 0; depth = e .depth; kind = e .kind; work = workTo s (lastLooked (e .depth) (e .kind)); moment = e .moment }
+firstOfList s e =
+    let work = workTo s (lastLooked (e .depth) (e .kind)) in
+    record { refusal = 0; depth = e .depth; kind = e .kind; work = work; moment = e .moment }
 
 unfoldable pub firstAnswer : Section → FirstDepth
 firstAnswer s =

@@ -68,7 +68,7 @@ pub record Walked (s : Section) (from looked z : ℕ) : Type 0 where
   pub on : from ≤ openFrom looked z
   pub none : NoneTo s from (openFrom looked z)
 
--- the next listed depth from one on, with the last depth looked at for it, from which the walk can go on; past the grid, where there is none
+-- the next listed depth from one on, and the last depth looked at for it, from which the walk can go on; past the grid, where there is none
 pub record Next (s : Section) (from : ℕ) (f : Found) : Type 0 where
   pub inside : f .looked ≤ lastDepth s
   pub sign : f .sign ≡ signLooked s (f .looked)

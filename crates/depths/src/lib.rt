@@ -1,6 +1,6 @@
 // Where the forces of a section balance: the sign of the imbalance at each depth, the list of every depth, and the first alone (document 01, 'Strains,
-// strips and balance'; document 02 [5]), with the work that it took ([6]). A list needs no imbalance but its sign: bounds of the strips' force give it
-// without a strip visited wherever zero does not lie between them, and the rule itself where it does.
+// strips and balance'; document 02 [5]), with the work that it took ([6]). A list needs no imbalance but its sign: bounds of the strips'
+// force give it without a strip visited wherever zero does not lie between them, and the rule itself where it does.
 ghost use mathlib.Core.Path.{_≡_};
 ghost use Prim.Native.Nat.{_+_, _*_, _-_, _≤_, _<_};
 ghost use lib.IntN.{pos, natAbs, _*ℤ_};
@@ -84,8 +84,8 @@ fn no_depth(work: u32, number: u32) -> FirstDepth
     }
 }
 
-// The stresses of the imbalances at the depths from 1 to one, as the rule counts them: every strip and every layer at each, whether the sign there
-// needed it or not.
+// The stresses of the imbalances at the depths from 1 to one, as the rule counts them: every strip and every layer at each, whether the
+// sign there needed it or not.
 fn work_to(section: Section, last: u32) -> u32
     requires { ⌜ (Accepted section) × (last ≤ lastDepth section) ⌝ }
     ensures { λ r. ⌜ r ≡ workTo section last ⌝ }
@@ -325,8 +325,8 @@ fn looked_at_all(section: Section, number: u32, count: u32) -> Listing
     }
 }
 
-// The listed depths of a section, three words each: x, kind, moment; their number, and the work that it took. Or 7 to 13 with 20, and zeros, or 14
-// or 15; and the row as it was.
+// The listed depths of a section, three words each: x, kind, moment; their number, and the work that it took. Or 7 to 13 with 20, and
+// zeros, or 14 or 15; and the row as it was.
 pub fn depths(section: Section, row: &mut [i64]) -> Listing
     ensures { λ r. ⌜ (r ≡ listAnswer section (length (now (row .entry)))) × (now (row .exit) ≡ rowAfter section (now (row .entry))) ⌝ }
 {

@@ -90,8 +90,8 @@ pub extern "C" fn fw_moment(part: &[u8], x: u32) -> Amount
     forces::moment(answer.section, x)
 }
 
-// Every depth where the forces of a record's section balance, into a lent row, and the work that it took; or 6, 7 to 13 with 20, 14 or 15, and the
-// row as it was.
+// Every depth where the forces of a record's section balance, into a lent row, and the work that it took; or 6, 7 to 13 with 20, 14 or
+// 15, and the row as it was.
 #[no_mangle]
 pub extern "C" fn fw_depths(part: &[u8], row: &mut [i64]) -> Listing
     ensures { λ r. ⌜ (r ≡ listOf (now (part .entry)) (length (now (row .entry)))) × (now (row .exit) ≡ rowOf (now (part .entry)) (now (row .entry))) ⌝ }
@@ -103,8 +103,8 @@ pub extern "C" fn fw_depths(part: &[u8], row: &mut [i64]) -> Listing
     depths::depths(answer.section, row)
 }
 
-// The first listed depth of a record's section alone, its kind, its moment, and the work that it took; or 6, 7 to 13 with 20, or 14, and zeros but
-// for the work of 14.
+// The first listed depth of a record's section alone, its kind, its moment, and the work that it took; or 6, 7 to 13 with 20, or 14, and
+// zeros but for the work of 14.
 #[no_mangle]
 pub extern "C" fn fw_first(part: &[u8]) -> FirstDepth
     ensures { λ r. ⌜ r ≡ firstDepthOf (now (part .entry)) ⌝ }

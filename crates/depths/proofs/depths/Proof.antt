@@ -22,14 +22,18 @@ returns-2 : tie.Need-returns-2
 returns-2 c =
     let n = c .before .before .listed-count in
     let s = c .before .before .before .before .before in
-    let w = lists-none _ _ (s .before .before .of .ensures) (s .before .before .before .args .row .now) (n .result) (n .ensures .0) (s .if1 .left) (c .before .if2 .taken) in
+    let w =
+    lists-none _ _ (s .before .before .of .ensures) (s .before .before .before .args .row .now) (n .result) (n .ensures .0) (s .if1 .left)
+    (c .before .if2 .taken) in
     (c .looked-at-all .ensures ∙ w .0, w .1)
 
 returns-3 : tie.Need-returns-3
 returns-3 c =
     let n = c .before .before .before .listed-count in
     let s = c .before .before .before .before .before .before in
-    let w = lists-short _ _ (s .before .before .of .ensures) (s .before .before .before .args .row .now) (n .result) (n .ensures .0) (s .if1 .left) (c .before .before .if2 .left) (c .before .if3 .taken) in
+    let w =
+    lists-short _ _ (s .before .before .of .ensures) (s .before .before .before .args .row .now) (n .result) (n .ensures .0) (s .if1 .left)
+    (c .before .before .if2 .left) (c .before .if3 .taken) in
     (c .looked-at-all2 .ensures ∙ w .0, w .1)
 
 write-list-requires : tie.Need-write-list-requires
@@ -43,7 +47,9 @@ returns-4 c =
     let n = c .before .before .before .before .before .before .before .listed-count in
     let s = c .before .before .before .before .before .before .before .before .before .before in
     let t = c .before .before .before .before .before in
-    let w = lists _ _ (s .before .before .of .ensures) (s .before .before .before .args .row .now) (n .result) (n .ensures .0) (s .if1 .left) (t .before .if2 .left) (t .if3 .left) in
+    let w =
+    lists _ _ (s .before .before .of .ensures) (s .before .before .before .args .row .now) (n .result) (n .ensures .0) (s .if1 .left)
+    (t .before .if2 .left) (t .if3 .left) in
     (c .looked-at-all3 .ensures ∙ w .0, c .before .before .write-list .ensures ∙ w .1)
 
 pub depths-spec : {M : Type 1} → statement M

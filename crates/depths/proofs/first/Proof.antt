@@ -38,7 +38,8 @@ returns-2 : tie.Need-returns-2
 returns-2 c =
     let t = c .before .before in
     let s = start (t .before) in
-    let took = c .before .work-to .ensures ∙ ap (workTo (s .before .before .before .args .section)) (t .before .before .before .last-depth .ensures) in
+    let took = c .before .work-to .ensures
+    ∙ ap (workTo (s .before .before .before .args .section)) (t .before .before .before .last-depth .ensures) in
     c .no-depth .ensures ∙ first-none _ _ (s .before .before .of .ensures) (s .if1 .left) (found (t .before)) (past t) took
 
 returns-3 : tie.Need-returns-3
