@@ -33,6 +33,8 @@ pub holds : (z : ℤ) → nat_abs z ≤ 2 ^ 53 → Holds (whole z) z
 holds z h = go (whole z) (whole_val z h)
   where
     go : (x : Float) → Val x z → Holds x z
+    go nan v = elim v [ ]
+    go (inf _) v = elim v [ ]
     go (fin s m e) v = (v.0, sym (mul-one (m * up e)) ∙ v.1)
 
 -- ---- the sum

@@ -1,5 +1,5 @@
 -- Division that rounds down: between what it lies, and how the machine's division, which rounds towards zero, gives it. Assumes nothing.
-use Prim.Native.Nat.{ℕ, suc, ◌*◌, ◌/◌, ◌≤◌, ◌<◌}
+use Prim.Native.Nat.{ℕ, ◌/◌, ◌≤◌, ◌<◌}
 use mathlib.Core.Path.{◌≡◌, refl}
 use native.Mathlib.Nat as NatL
 use native.Mathlib.Omega.{arith}
@@ -7,7 +7,7 @@ use lib.Dec.{ltb→lt}
 use lib.IntN.{ℤ, pos, negsuc, ◌-ℤ◌, ◌*ℤ◌, nat_abs}
 use lib.Signed.{quot_z, ◌≤ℤ◌, ◌<ℤ◌}
 use Rattle.arith.specs.Floor.{floor_div, RoundsDown}
-use Rattle.arith.proofs.Signed.{up, dn, same, parts_add, parts_minus, up_scale, dn_scale, parts_lt, parts_le}
+use Rattle.arith.proofs.Signed.{same, parts_add, parts_minus, up_scale, dn_scale, parts_lt, parts_le}
 
 pub floor_is : (z : ℤ) (d : ℕ) → 0 < d → RoundsDown z d (floor_div z d)
 unfolding floor_div

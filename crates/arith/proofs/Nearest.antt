@@ -3,14 +3,14 @@
 use mathlib.Core.Path.{◌≡◌, refl, sym, ap, ◌∙◌, subst}
 use mathlib.Core.Bool.{Bool, true, false, not}
 use Prim.Native.Nat.{ℕ, zero, suc, ◌+◌, ◌-◌, ◌*◌, ◌/◌, ◌%◌, ◌^◌, ◌≤◌, ◌<◌, compare, Ordering}
-use native.Mathlib.Nat.{le_trans, le_of_eq, le_of_lt, lt_of_le_of_lt, zero-lt-suc, one-mul, zero-mul, mul_comm, mul_assoc, mul_left_comm, mul_right_comm}
+use native.Mathlib.Nat.{le_trans, le_of_eq, lt_of_le_of_lt, zero-lt-suc, one-mul, zero-mul, mul_comm, mul_assoc, mul_left_comm, mul_right_comm}
 use native.Mathlib.Nat.{add-mul, mul-pos, mul-le-mul_right, mul-le-mul_left, mul-lt-mul_of_pos_right, le_of_mul-le-mul_right, lt_irrefl, div-add-mod', mod-lt, div-lt_iff_lt-mul, suc-mul}
 use native.Mathlib.Omega.{arith}
 use lib.Dec.{T, is_le, compare_is_eq, eqb, leb→le, nleb→lt, eqb→eq, eqb_refl, lit<, lit≤}
 use lib.Arith.{lt_of_le-ne}
 use lib.Pow.{pow_pos, pow_mono, pow-add}
 use lib.IntN.{ℤ, pos, negsuc, nat_abs, neg_ℤ, ◌*ℤ◌, zero-*ℤ}
-use lib.Ieee.{Float, fin, binary64, low, up, down, nearest, size, units, round, of_int}
+use lib.Ieee.{Float, nan, inf, fin, binary64, low, up, down, nearest, size, round, of_int}
 use lib.Ieee.Digits.{size-le}
 use lib.Ieee.Fits.{down_pos, round_is}
 use lib.Ieee.Exact.{HasValue, units_val}
@@ -137,6 +137,8 @@ frac_within n d D h = go (frac n d) (round_val (is_neg n) k d (fine k d D h))
     k = nat_abs n
 
     go : (r : Float) → HasValue r (is_neg n) (grid binary64 k d) (2 ^ low binary64) → Close (2 ^ 34) r n d
+    go nan v = elim v [ ]
+    go (inf _) v = elim v [ ]
     go (fin s m e) v =
         let l = 2 ^ low binary64 in
         let b = bound (m * up e) (down e) (grid binary64 k d) l d k (2 ^ dropped k d) (2 ^ 1041) (2 ^ 34) (pow_pos 1041) refl (pow_mono (dropped_le k d D h)) v.1 (grid_half k d D) in
@@ -164,6 +166,8 @@ only_zero (pos (suc k)) d s e D w = absurd (not_lost (suc k) d (down e) (zero-lt
 only_zero (negsuc k) d s e D w = absurd (not_lost (suc k) d (down e) (zero-lt-suc k) (down_pos e) D (nought_out (up e) d (2 ^ 34) (d * down e) (suc k * down e * 2 ^ 34) w.2))
 
 coarser : (r : Float) (n : ℤ) (d : ℕ) → Close (2 ^ 34) r n d → Close 1000000 r n d
+coarser nan n d w = elim w [ ]
+coarser (inf _) n d w = elim w [ ]
 coarser (fin s m e) n d w =
     (w.0, coarse (m * up e * d) (nat_abs n * down e) (d * down e) w.1, coarse (nat_abs n * down e) (m * up e * d) (d * down e) w.2)
 

@@ -105,7 +105,7 @@ running_none f B = record { sum = stands (pos 0) (B * 0) (omega arith) }
 module _ {f : ℕ → ℤ} {B n : ℕ} {z : ℤ} (h : Running f B n z) (r : ℤ) (is : r ≡ f n) (most : nat_abs r ≤ B) (room : B * (n + 1) < 2 ^ 63) where
   more : Stands (z +ℤ back r) (sum_z (n + 1) f) (B * (n + 1))
   unfolding sum_z
-  more = rw (add-one, NatL.mul-suc B n) (stands_add h.sum (returned B is most (omega (arith, NatL.mul_add B n 1))))
+  more = rw (add-one, NatL.mul-suc B n) (stands_add h.sum (returned B is most (omega (arith, NatL.mul-add B n 1))))
 
   pub running_fits : SFits w64 (z +ℤ back r)
   running_fits = stands_fits more room

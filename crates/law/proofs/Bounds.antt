@@ -36,7 +36,7 @@ ramp_most ea sa eb sb p q m h k i j =
 under_square : (p w m : ℕ) → p + w ≡ m → p * (m + w) ≤ m * m
 under_square p w m e =
     let h : p ≤ m = omega arith in
-    omega (arith, NatL.mul_add p m w, ap (λ n. n * m) e, NatL.add-mul p w m, NatL.mul_comm p w, NatL.mul-le-mul_left w h)
+    omega (arith, NatL.mul-add p m w, ap (λ n. n * m) e, NatL.add-mul p w m, NatL.mul_comm p w, NatL.mul-le-mul_left w h)
 
 parabola_most : (fcd p q : ℕ) → p ≤ 2000 * q → size (parabola fcd p q) ≤ fcd
 unfolding size

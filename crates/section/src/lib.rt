@@ -1,6 +1,7 @@
 // A section of fibre concrete, what is refused of it, what it has, and a layer added to it (document 01, 'What a section is'; document 02 [4]:
 // its flange).
 #![tactic(auto)]
+
 ghost use Rattle.std.specs.Prelude.{◌≡◌, true, cond, ◌&&◌, ◌++◌, ◌+◌, ◌*◌, ◌-◌, ◌≤◌, ◌<◌, ltb, leb, nat_abs, drop};
 ghost use Rattle.arith.specs.Lines.{within};
 ghost use Rattle.section.specs.Section.{layers_of, in_range, layers_right};
