@@ -1,5 +1,6 @@
 // The law of a section's concrete and bars: its whole numbers, and the rounded size of a stress (document 01, 'Stress at a strain').
 #![tactic(auto)]
+
 ghost use Rattle.std.specs.Prelude.{◌≡◌, true, ◌*◌, ◌-◌, ◌≤◌, ◌<◌};
 ghost use Rattle.section.specs.Accepted.{Accepted};
 ghost use Rattle.law.specs.Law.{limit_depth, effective_depth, law_of, law_answer};
