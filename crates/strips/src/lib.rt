@@ -2,6 +2,7 @@
 // of them. The bounds are closed sums, one quotient for each piece of the law, and no strip is visited: rounding takes less than 1 kPa off
 // each, so a closed sum is above the sum of the rounded stresses by at most the number of strips that are rounded.
 #![tactic(auto)]
+
 ghost use Rattle.std.specs.Prelude.{◌≡◌, ◌+◌, ◌*◌, ◌-◌, ◌^◌, ◌≤◌, ◌<◌, leb};
 ghost use Rattle.strips.specs.Strips.{reach, strip_size, strip_at};
 ghost use Rattle.strips.specs.Closed.{odds, thrice, squares, bent_sum, ramp_sum};
