@@ -15,7 +15,7 @@ use Rattle.law.specs.Edition.{edition}
 use Rattle.law.specs.Law.{law_of}
 use Rattle.law.proofs.Ranges.{law_in}
 use Rattle.strips.specs.declared.Axis.{Axis}
-use Rattle.strips.specs.Strips.{Scale, scale_of}
+use Rattle.strips.specs.Strips.{scale_of}
 use Rattle.forces.specs.Forces.{strain_scale}
 use Rattle.forces.specs.Axis.{axis_fits, axis_at}
 

@@ -1,5 +1,6 @@
 // The forces of a section at a neutral axis: imbalance and moment at a depth, the rule itself (document 01, 'Strains, strips and balance').
 #![tactic(auto)]
+
 ghost use Rattle.std.specs.Prelude.{◌≡◌, cond, ◌+◌, ◌*◌, ◌-◌, ◌≤◌, ◌<◌, pos, nat_abs, ◌-ℤ◌, ◌*ℤ◌};
 ghost use Rattle.section.specs.Accepted.{Accepted};
 ghost use Rattle.section.specs.Has.{width_at, last_depth};
