@@ -88,10 +88,12 @@ last_zero_listed s ok = zero_listed s (last_depth s) (omega (arith, (accepted s 
 
 -- ---- 4. the first that is listed is the shallowest that balances
 deeper : (low : ℕ) (es : List Entry) → Rising low es → {e : Entry} → Memᴰ e es → low < e.depth
+deeper low [] r w = elim w [ ]
 deeper low (f ∷ es) r (Memᴰ.head e) = omega (arith, r.0, ap (λ v. v.depth) e)
 deeper low (f ∷ es) r (Memᴰ.tail w) = omega (arith, r.0, deeper f.depth es r.1 w)
 
 first_least : (es : List Entry) → Rising 0 es → {e : Entry} → Memᴰ e es → (entry_of es 0).depth ≤ e.depth
+first_least [] r w = elim w [ ]
 first_least (f ∷ es) r (Memᴰ.head e) = omega (arith, ap (λ v. v.depth) e)
 first_least (f ∷ es) r (Memᴰ.tail w) = omega (arith, deeper f.depth es r.1 w)
 

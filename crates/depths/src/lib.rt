@@ -2,6 +2,7 @@
 // strips and balance'; document 02 [5]), with the work that it took ([6]). A list needs no imbalance but its sign: bounds of the strips'
 // force give it without a strip visited wherever zero does not lie between them, and the rule itself where it does.
 #![tactic(auto)]
+
 ghost use Rattle.std.specs.Prelude.{◌≡◌, ◌+◌, ◌*◌, ◌-◌, ◌≤◌, ◌<◌, pos, nat_abs, ◌*ℤ◌, length, replicate};
 ghost use Rattle.arith.specs.Sums.{sum_z, after};
 ghost use Rattle.section.specs.Accepted.{Accepted};
