@@ -3,18 +3,11 @@ use mathlib.Core.Path.{◌≡◌, ap, ◌∙◌}
 use mathlib.Core.Bool.{true}
 use native.Mathlib.Omega.{arith}
 use lib.ListN.{length}
-use borrow.Author.Tests.{lt-ltb}
 use Rattle.strength.specs.Strength.{deviation_of, results_right}
-use Rattle.strength.specs.Code.{SeriesIn}
-use Rattle.strength.proofs.Refused.{number_is, results_are, series_in}
+use Rattle.strength.proofs.Refused.{series_by}
 use Rattle.strength.proofs.Answers.{Found, by_21, by_22, by_23, by_none}
 use Rattle.strength.proofs.strength.Goals as goal
-use Rattle.strength.proofs.strength.Goals.{After-g_of-g, Else-not-results_right}
-
-passed : (c : Else-not-results_right) → SeriesIn c.args.results.now
-passed c =
-    let rs = c.args.results.now in
-    series_in rs ((number_is rs).0 (lt-ltb 0 _ (omega arith))) ((results_are rs).0 cc)
+use Rattle.strength.proofs.strength.Goals.{After-g_of-g}
 
 found : (c : After-g_of-g) → Found c.args.results.now c.mean-f.result c.deviation-s.result c.a_of-a.result c.g_of-g.result
 found c = record {
@@ -31,19 +24,17 @@ pub returns-then-not-results_right : goal.returns-then-not-results_right
 returns-then-not-results_right c = let w = by_22 c.args.results.now (omega arith) cc in cc
 
 pub mean-f-requires : goal.mean-f-requires
-mean-f-requires c = passed (goal.at.mean-f-requires c).Else-not-results_right
+mean-f-requires c = series_by c.args.results.now (omega arith) cc
 
 pub squares-requires : goal.squares-requires
-squares-requires c = (c.mean-f.ensures.2, passed (goal.at.squares-requires c).Else-not-results_right)
+squares-requires c = let w = series_by c.args.results.now (omega arith) cc in (c.mean-f.ensures.2, w)
 
 pub deviation-s-requires : goal.deviation-s-requires
-deviation-s-requires c =
-    let w = passed (goal.at.deviation-s-requires c).Else-not-results_right in
-    (w.some, w.few, c.squares.ensures.1)
+deviation-s-requires c = let w = series_by c.args.results.now (omega arith) cc in (w.some, w.few, c.squares.ensures.1)
 
 pub a_of-a-requires : goal.a_of-a-requires
 a_of-a-requires c =
-    let w = passed (goal.at.a_of-a-requires c).Else-not-results_right in
+    let w = series_by c.args.results.now (omega arith) cc in
     (w.some, w.few, c.deviation-s.ensures.1, c.t10-t.ensures)
 
 pub returns-then-f-a : goal.returns-then-f-a
