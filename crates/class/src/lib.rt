@@ -1,5 +1,6 @@
 // The class of a fibre concrete from its residual strengths fR1 and fR3 (document 01, 'Class').
 #![tactic(auto)]
+
 ghost use Rattle.std.specs.Prelude.{◌≡◌, cond, ◌≤◌, ◌<◌};
 ghost use Rattle.class.specs.Class.{step_of, letter_of, class_answer};
 

@@ -1,5 +1,5 @@
 -- A root by its digits: each round halves the run of numbers among which it lies. Assumes nothing.
-use Prim.Native.Nat.{ℕ, suc, ◌+◌, ◌*◌, ◌-◌, ◌/◌, ◌%◌, ◌^◌, ◌≤◌, ◌<◌}
+use Prim.Native.Nat.{ℕ, zero, suc, ◌+◌, ◌*◌, ◌-◌, ◌/◌, ◌%◌, ◌^◌, ◌≤◌, ◌<◌}
 use mathlib.Core.Path.{◌≡◌, refl, ◌∙◌, subst}
 use mathlib.Core.Bool.{Bool, true, false, cond}
 use mathlib.Core.Logic.{◌⊎◌, inl, inr, ◌↔◌}
@@ -21,6 +21,7 @@ shifted digit h = NatL.mod-eq_of_lt (omega (arith, pow-lt {i = digit} {j = 64} (
 
 -- and twice the place below it
 pub doubled : (digit : ℕ) → 0 < digit → 2 ^ digit ≡ 2 ^ (digit - 1) + 2 ^ (digit - 1)
+doubled zero h = elim h [ ]
 doubled (suc digit) h = rw (sub-one (suc digit)) (omega (arith, NatL.pow-suc 2 digit))
 
 -- ---- rounds

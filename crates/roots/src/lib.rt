@@ -1,5 +1,6 @@
 // The largest number with a bound on its square or cube, found digit by digit from the highest: the roots of document 01, 'Shear'.
 #![tactic(auto)]
+
 ghost use Rattle.std.specs.Prelude.{◌≡◌, ◌+◌, ◌^◌, ◌≤◌, min};
 ghost use Rattle.roots.specs.Root.{power, raised, past, Root};
 ghost use Rattle.roots.specs.Code.{with_digit};

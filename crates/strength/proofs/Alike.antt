@@ -58,7 +58,7 @@ module _ (rs : List ℕ) (r : ℕ) (number : NumberIn rs) (range : Between 1 200
 
   pub equal_answer : (strength_answer rs ≡ answered r 0 r) × (series_a rs ≡ 0) × (series_g rs ≡ 0)
   equal_answer =
-      let some = ltb-true 0 _ ((number_is rs).1 number) in
+      let some : 0 < t10_of (length rs) = ltb-true 0 _ ((number_is rs).1 number) in
       let right = (results_are rs).1 series.each in
       let whole : r - 0 - 0 ≡ r = omega arith in
       (sym (by_none rs some right equal (omega arith)) ∙ ap (answered r 0) whole, sym (a_is equal), sym (g_is equal))

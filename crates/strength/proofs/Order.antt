@@ -3,7 +3,6 @@ use Prim.Native.Nat.{ℕ, ◌+◌, ◌-◌, ◌/◌}
 use mathlib.Core.Path.{◌≡◌, ap, ◌∙◌}
 use mathlib.Core.List.{List}
 use lib.Dec.{ltb, leb}
-use lib.ListN.{length}
 use Rattle.arith.specs.Answers.{unless_refused}
 use Rattle.arith.specs.Lines.{line, within}
 use Rattle.arith.specs.Rearranged.{Rearranged}

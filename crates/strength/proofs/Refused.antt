@@ -1,5 +1,5 @@
 -- What 21 and 22 decide; a series that passes both, and 23. Assumes nothing.
-use Prim.Native.Nat.{ℕ, ◌+◌, ◌≤◌}
+use Prim.Native.Nat.{ℕ, ◌+◌, ◌≤◌, ◌<◌}
 use mathlib.Core.Path.{◌≡◌, refl}
 use mathlib.Core.Bool.{Bool, true, false, cond, ◌&&◌, false≢true}
 use mathlib.Core.Logic.{◌⊎◌, inl, inr, ⊎_elim}
@@ -68,6 +68,9 @@ results_are rs = (
 -- ---- both, and 23
 pub series_in : (rs : List ℕ) → NumberIn rs → ResultsIn rs → SeriesIn rs
 series_in rs number each = let p = (in_table (length rs)).inside number in record { some = p.0; few = p.1; each = each }
+
+pub series_by : (rs : List ℕ) → 0 < t10_of (length rs) → results_right rs ≡ true → SeriesIn rs
+series_by rs number right = series_in rs ((number_is rs).0 (lt-ltb 0 _ number)) ((results_are rs).0 right)
 
 pub passes_all : (rs : List ℕ) → strength_refusal rs ≡ 0 → SeriesIn rs × ValueIn rs
 unfolding strength_refusal

@@ -1,5 +1,6 @@
 // A characteristic strength from a series of beam results (document 02 [7]): formula 5 of document 002, with its formula 6 and its Table 2.
 #![tactic(auto)]
+
 ghost use Rattle.std.specs.Prelude.{◌≡◌, ◌+◌, ◌*◌, ◌^◌, ◌≤◌, ◌<◌, length};
 ghost use Rattle.arith.specs.Lines.{within};
 ghost use Rattle.arith.specs.Sums.{placed, sum_over};
@@ -30,6 +31,7 @@ fn refuse(number: u32) -> StrengthAnswer
 }
 
 // Table 2, in hundredths; 0 where it does not have n.
+#[tactic(auto, unfolding(crate::specs::Strength::t10_of, crate::specs::Strength::under, crate::specs::Strength::numbers, crate::specs::Strength::fractiles,))]
 fn t10(n: usize) -> u64
     ensures { result ≡ t10_of n }
 {
