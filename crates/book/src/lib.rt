@@ -1,5 +1,6 @@
 // The section book (document 01): its checks, and a record as a part of it.
 #![tactic(auto)]
+
 ghost use Rattle.std.specs.Prelude.{◌≡◌, ◌+◌, ◌<◌, ◌^◌};
 ghost use Rattle.arith.specs.Below.{all_below};
 ghost use Rattle.book.specs.Code.{Sized};

@@ -1,5 +1,6 @@
 // One record (document 01, 'The section book'): numbers out of bytes, its section, and a section's record.
 #![tactic(auto)]
+
 ghost use Rattle.std.specs.Prelude.{◌≡◌, ◌+◌, ◌/◌, ◌%◌, ◌≤◌, ◌<◌, ◌^◌, [], ◌∷◌, ◌++◌, get_or, take, drop};
 ghost use Rattle.arith.specs.Joined.{joined};
 ghost use Rattle.record.specs.Record.{le16_at, le32_at, signed32, layers_end, record_size, layers_at, flange_at, size_at, record_right, layer_in, layers_in, flange_width, section_in, no_section, section_answer};

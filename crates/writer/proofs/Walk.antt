@@ -41,7 +41,7 @@ module _ (r : List ℕ) where
 
   pub place_next : (i : ℕ) → place_at r (i + 1) ≡ place_at r i + size_at r (place_at r i)
   unfolding place_at
-  place_next i = rw add-one
+  place_next i = rw (add-one i)
 
   pub steps : (i at size : ℕ) → at ≡ place_at r i → size ≡ size_at r at → at + size ≡ place_at r (i + 1)
   steps i at size e f = rw (f, e) (sym (place_next i))

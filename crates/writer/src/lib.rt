@@ -1,5 +1,6 @@
 // Books written on the unit (document 02 [1]): a book out of sections, and a record with a layer added.
 #![tactic(auto)]
+
 ghost use Rattle.std.specs.Prelude.{◌≡◌, ◌+◌, ◌*◌, ◌≤◌, ◌<◌, length, take};
 ghost use Rattle.arith.specs.Joined.{joined};
 ghost use Rattle.record.specs.Record.{record_refusal, section_in};
