@@ -19,8 +19,8 @@ pub loop-j-preserved : goal.loop-j-preserved
 loop-j-preserved c =
     let k = c.loop-j.invariant.1 in
     elim c.if-carried-here.branch [
-      | then-carried-here w ↦ (omega arith, rw (w.layers-is, w.carried-is) (swaps k (omega arith) (omega arith) w.if-carried-here.true))
-      | else-carried-here w ↦ (omega arith, rw (w.layers-is, w.carried-is) (stays k (omega arith) (omega arith) w.if-carried-here.false))
+      | then-carried-here w ↦ (omega arith, rw (w.layers-is, w.carried-is) (swaps k (omega arith) (omega arith) (omega arith)))
+      | else-carried-here w ↦ (omega arith, rw (w.layers-is, w.carried-is) (stays k (omega arith) (omega arith) (omega arith)))
     ]
 
 pub returns : goal.returns
