@@ -3,7 +3,6 @@ use mathlib.Core.Path.{◌∙◌, ap}
 use native.Mathlib.Omega.{arith}
 use lib.IntN.{pos, neg_ℤ, +ℤ_idl}
 use lib.Ieee.{of_bits, of_int}
-use borrow.Author.Rules.{rules}
 use Rattle.arith.specs.Floats.{whole}
 use Rattle.arith.proofs.Floats.{sub_whole}
 use Rattle.drawn.proofs.below.Goals as goal

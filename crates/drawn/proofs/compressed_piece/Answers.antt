@@ -2,7 +2,6 @@
 use native.Mathlib.Omega.{arith}
 use lib.Ieee.{of_bits, of_int}
 use borrow.Author.Tests.{le-leb, lt-leb}
-use borrow.Author.Rules.{rules}
 use Rattle.drawn.specs.Pieces.{compressed_piece}
 use Rattle.drawn.proofs.compressed_piece.Goals as goal
 

@@ -1,8 +1,6 @@
 -- `draw`: the section's refusal, then the strain's, then the piece at the strain.
 use mathlib.Core.Path.{◌≡◌, sym, ap, ◌∙◌}
-use mathlib.Core.Bool.{true}
 use native.Mathlib.Omega.{arith}
-use borrow.Author.Rules.{rules}
 use Rattle.arith.proofs.Machine.{read32}
 use Rattle.law.proofs.Ranges.{law_in}
 use Rattle.law.proofs.Answers.{passes}

@@ -4,8 +4,6 @@ use mathlib.Core.Bool.{◌&&◌}
 use native.Mathlib.Omega.{arith}
 use lib.IntN.{pos}
 use lib.Signed.{le_z}
-use mir.Syntax.{w32, w64}
-use mir.Val.{SFits, to_z, of_z}
 use Rattle.arith.proofs.Machine.{read, read32, read_minus, minus_fits}
 use Rattle.law.specs.Edition.{edition}
 use Rattle.drawn.proofs.drawable.Goals as goal

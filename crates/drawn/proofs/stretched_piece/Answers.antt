@@ -2,7 +2,6 @@
 use mathlib.Core.Path.{◌∙◌}
 use native.Mathlib.Omega.{arith}
 use lib.Ieee.{of_bits, of_int}
-use borrow.Author.Rules.{rules}
 use Rattle.drawn.proofs.Cases.{on_first, on_second, on_third, beyond}
 use Rattle.drawn.proofs.stretched_piece.Goals as goal
 

@@ -2,7 +2,6 @@
 use Prim.Native.Nat.{◌*◌, ◌≤◌, ◌<◌}
 use mathlib.Core.Path.{sym, subst}
 use native.Mathlib.Omega.{arith}
-use borrow.Author.Rules.{rules}
 use Rattle.section.proofs.Widths.{flange_inside, area_is, area_some, area_most}
 use Rattle.shear.proofs.area.Goals as goal
 

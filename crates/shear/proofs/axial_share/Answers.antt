@@ -2,8 +2,7 @@
 use Prim.Native.Nat.{◌*◌}
 use mathlib.Core.Path.{◌≡◌, ◌∙◌}
 use native.Mathlib.Omega.{arith}
-use lib.IntN.{ℤ, pos, ◌*ℤ◌}
-use borrow.Author.Rules.{rules}
+use lib.IntN.{pos, ◌*ℤ◌}
 use Rattle.arith.specs.Floor.{floor_div}
 use Rattle.arith.proofs.Machine.{back, Stands, stands, stands_mul, stands_fits, stored, stands_for, read}
 use Rattle.section.specs.declared.Section.{Section}

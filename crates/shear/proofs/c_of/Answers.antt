@@ -3,7 +3,6 @@ use Prim.Native.Nat.{◌*◌, ◌≤◌}
 use native.Mathlib.Nat as NatL
 use native.Mathlib.Omega.{arith}
 use borrow.Author.Tests.{lt-ltb, le-ltb}
-use borrow.Author.Rules.{rules}
 use Rattle.shear.specs.Shear.{c_of}
 use Rattle.shear.proofs.Roots.{c_root}
 use Rattle.shear.proofs.Ranges.{steel_product}

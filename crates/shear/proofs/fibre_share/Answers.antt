@@ -3,7 +3,6 @@ use Prim.Native.Nat.{◌*◌, ◌/◌, ◌≤◌}
 use mathlib.Core.Path.{ap}
 use native.Mathlib.Nat.{mul-le-mul, max-le}
 use native.Mathlib.Omega.{arith}
-use borrow.Author.Rules.{rules}
 use Rattle.shear.specs.Shear.{fibre_share}
 use Rattle.shear.proofs.fibre_share.Goals as goal
 use Rattle.shear.proofs.fibre_share.Goals.{After-most}

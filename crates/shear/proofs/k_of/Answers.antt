@@ -3,7 +3,6 @@ use Prim.Native.Nat.{◌+◌, ◌<◌, ◌^◌, min}
 use mathlib.Core.Path.{◌≡◌, ◌∙◌}
 use native.Mathlib.Nat.{min-le_right}
 use native.Mathlib.Omega.{arith}
-use borrow.Author.Rules.{rules}
 use Rattle.shear.specs.Shear.{k_of}
 use Rattle.shear.proofs.Roots.{k_root}
 use Rattle.shear.proofs.k_of.Goals as goal

@@ -3,59 +3,60 @@ use Prim.Native.Nat.{◌+◌, ◌*◌, ◌≤◌, min}
 use mathlib.Core.Path.{◌≡◌, ap, ◌∙◌}
 use native.Mathlib.Nat as NatL
 use native.Mathlib.Omega.{arith}
-use borrow.Author.Rules.{rules}
+use Rattle.section.specs.declared.Section.{Section}
+use Rattle.section.specs.Accepted.{Accepted}
+use Rattle.law.specs.declared.Law.{Law}
+use Rattle.law.specs.Law.{law_of}
 use Rattle.law.specs.Ranges.{LawIn}
 use Rattle.law.proofs.Ranges.{law_in}
 use Rattle.shear.specs.Shear.{fibre_share, resistance_under}
 use Rattle.shear.specs.Code.{most_concrete}
 use Rattle.shear.proofs.Ranges.{AreaIn, times_width}
 use Rattle.shear.proofs.resistance.Goals as goal
-use Rattle.shear.proofs.resistance.Goals.{After-concrete_share, Start}
+use Rattle.shear.proofs.resistance.Goals.{After-concrete_share}
 
-ranges : (c : Start) → LawIn c.args.law
-ranges c = rw c.requires.1 (law_in c.requires.0)
+module _ {s : Section} {l : Law} (p : Accepted s × (l ≡ law_of s)) where
+  ranges : LawIn l
+  ranges = rw p.1 (law_in p.0)
 
-web : (c : Start) → AreaIn c.args.section.b c.args.law.d
-web c = let d = (ranges c).d in times_width c.requires.0 c.args.law.d d.0 d.1
-
-abbrev begun : After-concrete_share → Start
-begun c = c.before.before.before.before.before.before
+  web : AreaIn s.b l.d
+  web = let d = ranges.d in times_width p.0 l.d d.0 d.1
 
 -- both shares, times b d
 shares : (c : After-concrete_share)
-    → let a = (begun c).args in (c.concrete_share.result + c.fibre_share-fibres.result) * (a.section.b * a.law.d) ≤ (most_concrete + 6000) * 2000000
+    → let a = c.args in (c.concrete_share.result + c.fibre_share-fibres.result) * (a.section.b * a.law.d) ≤ (most_concrete + 6000) * 2000000
 shares c =
     let concrete = c.concrete_share.ensures.1 in
-    NatL.mul-le-mul {n₂ = most_concrete + 6000} {m₂ = 2000000} (omega (arith, concrete, c.fibre_share-fibres.ensures.1)) (web (begun c)).area_most
+    NatL.mul-le-mul {n₂ = most_concrete + 6000} {m₂ = 2000000} (omega (arith, concrete, c.fibre_share-fibres.ensures.1)) (web c.requires).area_most
 
 pub overflow_mul-bd : goal.overflow_mul-bd
-overflow_mul-bd c = record { fits = omega (arith, (web (goal.at.overflow_mul-bd c).Start).area_most) }
+overflow_mul-bd c = record { fits = omega (arith, (web c.requires).area_most) }
 
 pub kf_of-requires : goal.kf_of-requires
-kf_of-requires c = let d = (ranges (goal.at.kf_of-requires c).Start).d in (c.requires.0, d.0, d.1)
+kf_of-requires c = let d = (ranges c.requires).d in (c.requires.0, d.0, d.1)
 
 pub fibre_share-fibres-requires : goal.fibre_share-fibres-requires
-fibre_share-fibres-requires c = (c.requires.0.fibres.1, (web (goal.at.fibre_share-fibres-requires c).Start).most, c.kf_of.ensures.1)
+fibre_share-fibres-requires c = (c.requires.0.fibres.1, (web c.requires).most, c.kf_of.ensures.1)
 
 pub concrete_share-requires : goal.concrete_share-requires
-concrete_share-requires c = let d = (ranges (goal.at.concrete_share-requires c).Start).d in (c.requires.0, d.0, d.1)
+concrete_share-requires c = let d = (ranges c.requires).d in (c.requires.0, d.0, d.1)
 
 pub overflow_mul-sum : goal.overflow_mul-sum
 overflow_mul-sum c = record { fits = omega (arith, shares c) }
 
 pub stirrups-requires : goal.stirrups-requires
-stirrups-requires c = let e = begun (goal.at.stirrups-requires c).After-concrete_share in ((web e).most, (ranges e).fyd.1, e.requires.0.stirrups)
+stirrups-requires c = let p = c.requires in ((web p).most, (ranges p).fyd.1, p.0.stirrups)
 
 pub overflow_add-sum : goal.overflow_add-sum
 overflow_add-sum c = record { fits = omega (arith, shares (goal.at.overflow_add-sum c).After-concrete_share, c.stirrups.ensures.1) }
 
 pub struts-struts-requires : goal.struts-struts-requires
-struts-struts-requires c = let e = begun (goal.at.struts-struts-requires c).After-concrete_share in (e.requires.0.concrete.0.1, (web e).area_most)
+struts-struts-requires c = let p = c.requires in (p.0.concrete.0.1, (web p).area_most)
 
 pub returns : goal.returns
 unfolding resistance_under
 returns c =
-    let a = (begun (goal.at.returns c).After-concrete_share).args in
+    let a = c.args in
     let s = a.section in
     let concreteIs = c.concrete_share.ensures.0 in
     let fibresIs = c.fibre_share-fibres.ensures.0 ∙ ap (fibre_share s.feq3 a.law.d) c.kf_of.ensures.0 in

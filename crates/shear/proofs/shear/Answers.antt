@@ -1,7 +1,6 @@
 -- `shear`: the section's refusal, then the bars', then the resistance.
 use mathlib.Core.Path.{◌≡◌, ap, ◌∙◌}
 use native.Mathlib.Omega.{arith}
-use borrow.Author.Rules.{rules}
 use Rattle.arith.proofs.Machine.{read_pos}
 use Rattle.law.proofs.Answers.{passes}
 use Rattle.section.specs.Amount.{answered, no_amount}

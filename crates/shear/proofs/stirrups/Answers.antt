@@ -3,7 +3,6 @@ use Prim.Native.Nat.{◌*◌, ◌≤◌}
 use native.Mathlib.Nat as NatL
 use native.Mathlib.Omega.{arith}
 use borrow.Author.Tests.{ne_eqb}
-use borrow.Author.Rules.{rules}
 use Rattle.shear.specs.Shear.{stirrups}
 use Rattle.shear.proofs.stirrups.Goals as goal
 use Rattle.shear.proofs.stirrups.Goals.{Else-asw-eq0}

@@ -1,9 +1,8 @@
 -- `struts`: one product, one quotient.
-use Prim.Native.Nat.{◌*◌, ◌-◌, ◌/◌, ◌≤◌}
+use Prim.Native.Nat.{◌*◌, ◌/◌, ◌≤◌}
 use mathlib.Core.Path.{ap}
 use native.Mathlib.Nat.{mul-le-mul, max-le}
 use native.Mathlib.Omega.{arith}
-use borrow.Author.Rules.{rules}
 use Rattle.shear.specs.Shear.{struts}
 use Rattle.shear.proofs.struts.Goals as goal
 use Rattle.shear.proofs.struts.Goals.{After-most}

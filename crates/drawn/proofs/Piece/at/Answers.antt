@@ -1,6 +1,5 @@
 -- `Piece::at`: each piece by its formula.
 use lib.Ieee.{of_bits, of_int}
-use borrow.Author.Rules.{rules}
 use Rattle.drawn.specs.Pieces.{evaluated}
 use Rattle.drawn.proofs.Piece.at.Goals as goal
 
