@@ -28,12 +28,13 @@ controls:
 bench:
 	@bench/run
 
+# `rt run` proves and builds the program where something has changed, and runs it: here on no book.
 run:
 	@[ -r "$$BOOK" ] && [ ! -d "$$BOOK" ] || { echo "no book to read: $$BOOK" >&2; exit 1; }
 	@mkdir -p target
-	@[ -x target/bin/booklines ] || echo 'proving and building the book program' >&2
-	@rt check booklines >target/booklines.log 2>&1 || { cat target/booklines.log >&2; exit 1; }
-	@tests/start target/booklines target/bin/booklines
+	@[ -x target/booklines ] || echo 'proving and building the book program' >&2
+	@(cd crates/booklines && rt run) </dev/null >target/booklines.log 2>&1 || { cat target/booklines.log >&2; exit 1; }
+	@tests/start target/booklines crates/booklines/out/booklines
 	@target/booklines <"$$BOOK"
 
 # A refused book or record has its sheet too. Where none can be drawn, none that was drawn before is left.
@@ -48,10 +49,12 @@ target/panel/sheet: target/staticlib/libpanel.a include/fordwhistle.h $(wildcard
 target/staticlib/libpanel.a: crates.txt $(wildcard crates/*/src/*.rt)
 	@mkdir -p target
 	@echo 'proving and building the library' >&2
-	@rt staticlib panel >target/staticlib.log 2>&1 || { cat target/staticlib.log >&2; exit 1; }
+	@$(MAKE) -s --no-print-directory lib >target/staticlib.log 2>&1 || { cat target/staticlib.log >&2; exit 1; }
 
 lib:
-	@rt staticlib panel
+	@cd crates/panel_c && rt lib
+	@mkdir -p target/staticlib
+	@cp crates/panel_c/out/libpanel_c.a target/staticlib/libpanel.a
 
 install: lib
 	@set -e; prefix=$$(realpath -ms "$$PREFIX"); to=$$DESTDIR$$prefix; \
@@ -62,8 +65,8 @@ install: lib
 	install -m 644 target/fordwhistle.pc "$$to/lib/pkgconfig"
 
 fmt:
-	@rt fmt
+	@for crate in crates/*; do (cd $$crate && rt fmt) || exit 1; done
 	@cargo fmt --manifest-path tests/rust/Cargo.toml
 
 clean:
-	@rm -rf target
+	@rm -rf target crates/*/out

@@ -6,24 +6,25 @@
 set -u
 cd "$(dirname "$0")/../.." || exit 1
 . tests/sh/check.sh
-copy=target/weakened
+copy=$(mktemp -d) || exit 1
+trap 'rm -rf "$copy"' EXIT
 specs=crates/demands/specs
 proofs=crates/demands/proofs
 
 # The public functions, crate by crate, a method after its type, each with its signature; the program's are not called
-# from outside.
+# from outside, and the exports are the functions of their names in panel, over again (all_exported).
 signatures() {
     awk '
         FNR == 1 { split(FILENAME, path, "/"); type = "" }
         /^impl / { type = $2 "." }
         /^}/ { type = "" }
-        match($0, /pub (extern "C" )?fn [a-z0-9_]+/) {
+        match($0, /pub fn [a-z0-9_]+/) {
             name = substr($0, RSTART, RLENGTH); sub(/.* /, "", name)
             while ($0 !~ /\)/ && (getline more) > 0) $0 = $0 more
             sub(/\(self/, "(self: " type)
             print path[2] "." type name "\t" $0
         }
-    ' crates/*/src/*.rt | grep -v '^booklines\.' | sort
+    ' crates/*/src/*.rt | grep -vE '^(booklines|panel_c)\.' | sort
 }
 
 # same: whether standard input is what target/tests/expected has, and that is something.
@@ -33,32 +34,32 @@ same() {
 
 all_read() {
     signatures | cut -f1 >target/tests/expected
-    sed -nE 's/^use Rattle·([a-z]+)\.proofs\.(.*)\.Reads as .*/\1.\2/p' "$specs/Contracts.antt" | sort | same
+    sed -nE 's/^use Rattle\.([a-z]+)\.proofs\.(.*)\.Reads as .*/\1.\2/p' "$specs/PublicContracts.antt" | sort | same
 }
 
 # What is read of each is one contract, whole.
 all_contracts() {
-    sed -nE 's/^use .*\.Reads as (.*)/asked = \1.Asked; told = \1.Learnt/p' "$specs/Contracts.antt" | sort >target/tests/expected
-    grep -oE 'asked = .*Learnt' "$specs/Contracts.antt" | sort | same
+    sed -nE 's/^use .*\.Reads as (.*)/asked = \1.Asked; told = \1.Learnt/p' "$specs/PublicContracts.antt" | sort >target/tests/expected
+    grep -oE 'asked = .*Learnt' "$specs/PublicContracts.antt" | sort | same
 }
 
 contracts() {
-    sed -nE 's/^abbrev pub ([a-z0-9-]+) : Contract .*/\1/p' "$specs/Contracts.antt" | sort
+    sed -nE 's/^abbrev pub ([a-z0-9_]+) : Contract .*/\1/p' "$specs/PublicContracts.antt" | sort
 }
 
 # stated FILE NAMES..: whether these are the contracts that a statement of the file is on.
 stated() {
     local file=$1
     shift
-    grep -oE '\bEvery\.[a-z0-9-]+' "$specs/$file" | cut -d. -f2 | sort -u >target/tests/stated
+    grep -oE '\bEvery\.[a-z0-9_]+' "$specs/$file" | cut -d. -f2 | sort -u >target/tests/stated
     "$@" >target/tests/expected
     same <target/tests/stated
 }
 
 # The contract of each public function that is read.
 named() {
-    sed -nE 's/^use Rattle·([a-z]+)\.proofs\.(.*)\.Reads as (.*)/\3 \1.\2/p
-        s/^([a-z0-9-]+) = record .* told = (.*)\.Learnt }$/\2 \1/p' "$specs/Contracts.antt" |
+    sed -nE 's/^use Rattle\.([a-z]+)\.proofs\.(.*)\.Reads as (.*)/\3 \1.\2/p
+        s/^([a-z0-9_]+) = record .* told = (.*)\.Learnt }$/\2 \1/p' "$specs/PublicContracts.antt" |
         awk '$1 in read { print read[$1] "\t" $2 } { read[$1] = $2 }' | sort
 }
 
@@ -74,47 +75,52 @@ refusing() {
 
 # Those that answer anything but a refusal.
 answering() {
-    contracts | grep -v -- '-refused$'
+    contracts | grep -v '_refused$'
 }
 
 # Each contract is decided, and so is the row, or are the bytes, of one that is lent them to write.
 all_decided() {
     {
         contracts | sed 's/.*/& &/'
-        sed -nE 's/^abbrev pub ([a-z0-9-]+) : \(.* → List ℤ → Type 0\) → .*/\1-row \1/p
-            s/^abbrev pub ([a-z0-9-]+) : \(.* → Written → List ℕ → Type 0\) → .*/\1-bytes \1/p' "$specs/Every.antt"
+        sed -nE 's/^abbrev pub ([a-z0-9_]+) : \(.* → List ℤ → Type 0\) → .*/\1_row \1/p
+            s/^abbrev pub ([a-z0-9_]+) : \(.* → Written → List ℕ → Type 0\) → .*/\1_bytes \1/p' "$specs/Every.antt"
     } | sort >target/tests/expected
-    sed -nE 's/^  pub ([a-z0-9-]+) : One(In)? Contracts\.([a-z0-9-]+).*/\1 \3/p' "$specs/Decided.antt" | sort | same
+    sed -nE 's/^  pub ([a-z0-9_]+) : One(In)? Contracts\.([a-z0-9_]+).*/\1 \3/p' "$specs/Decided.antt" | sort | same
 }
 
 # Each contract asks for nothing.
 all_free() {
     contracts | sed 's/.*/& &/' >target/tests/expected
-    sed -nE 's/^  pub ([a-z0-9-]+) : AsksNothing Contracts\.([a-z0-9-]+)$/\1 \2/p' "$specs/Free.antt" | sort | same
+    sed -nE 's/^  pub ([a-z0-9_]+) : AsksNothing Contracts\.([a-z0-9_]+)$/\1 \2/p' "$specs/Free.antt" | sort | same
 }
 
 # What each function of the C face takes and gives, in the header's order.
 all_wide() {
-    sed -nE 's/^fw_[a-z_]+ (fw_[a-z_]+)\(.*/\1/p' include/fordwhistle.h | tr _ - |
+    sed -nE 's/^fw_[a-z_]+ (fw_[a-z_]+)\(.*/\1/p' include/fordwhistle.h |
         sed 's/.*/Takes &\nGives &/' >target/tests/expected
-    sed -nE 's/^  pub [a-z-]+ : (Takes|Gives) Contracts\.([a-z-]+) .*/\1 \2/p' "$specs/Widths.antt" | same
+    sed -nE 's/^  pub [a-z_]+ : (Takes|Gives) Contracts\.([a-z_]+) .*/\1 \2/p' "$specs/Widths.antt" | same
 }
 
 # Each edit has its row among those that say why it is refused, with what makes it honest, and each row its edit.
 all_explained() {
     tests/edits kinds | sort >target/tests/expected
-    sed -nE 's/^\| ([a-z]+)\/`([a-z_0-9]+)` \| (operands|control) \|.*/\1\/\2 \3/p' docs/CONTRACTS.md | sort | same
+    sed -nE 's/^\| ([a-z_]+)\/`([a-z_0-9]+)` \| (operands|control) \|.*/\1\/\2 \3/p' docs/CONTRACTS.md | sort | same
 }
 
-# copied: a copy of the crates, with what is proved of them.
-copied() {
-    rm -rf "$copy" && mkdir -p "$copy/target" && cp -R crates crates.txt "$copy" &&
-        cp -R target/rlib target/stamp "$copy/target"
+# What a file of functions has of each of the C face, in order: its line and its clauses.
+face() {
+    grep -E '(fn fw_|^    (requires|ensures))' "crates/$1/src/lib.rt" | sed 's/^pub extern "C" fn/pub fn/'
+}
+
+# The exports take, give and promise what panel's functions do, of which the demands are.
+all_exported() {
+    face panel >target/tests/expected
+    face panel_c | same && [ "$(grep -c '^pub extern "C" fn' crates/panel_c/src/lib.rt)" -eq 12 ]
 }
 
 # proved CRATE: whether the copy's crate is proved.
 proved() {
-    (cd "$copy" && rt check "$1") >target/tests/weakened.log 2>&1
+    (cd "$copy/crates/$1" && rt check) >target/tests/weakened.log 2>&1
 }
 
 # refused_at PATTERN FILE..: whether the copy's demands are refused, at just those lines of these files that have the
@@ -123,20 +129,20 @@ refused_at() {
     local pattern=$1
     shift
     (cd "$proofs" && grep -HnE "$pattern" "$@") | cut -d: -f1,2 | sort >target/tests/expected
-    (cd "$copy" && rt check demands) >target/tests/weakened.log 2>&1
+    proved demands
     [ "$?" -eq 1 ] && sed -nE '/was not admitted/d
-        s/^.*crates\/demands\/proofs\/([A-Za-z0-9]+\.antt:[0-9]+):[0-9]+: error.*/\1/p' target/tests/weakened.log |
+        s/^(.*\/)?proofs\/([A-Za-z0-9]+\.antt:[0-9]+):[0-9]+: error.*/\2/p' target/tests/weakened.log |
         sort -u | same
 }
 
 # The functions of the C face answer as they do, but their contracts tell nothing.
 untold() {
-    copied && sed -i '/^    ensures {/d' "$copy/crates/panel/src/lib.rt" && rm -r "$copy/crates/panel/proofs"
+    tests/copy "$copy" && sed -i '/^    ensures {/d' "$copy/crates/panel/src/lib.rt" && rm -r "$copy/crates/panel/proofs"
 }
 
 # Two of them take 16 bits where the header has 32.
 narrowed() {
-    copied && sed -i -E '/fn fw_record\(/s/number: u32/number: u16/
+    tests/copy "$copy" && sed -i -E '/fn fw_record\(/s/number: u32/number: u16/
         s/record_place\(bytes, number\)/record_place(bytes, number as u32)/
         /fn fw_imbalance\(/s/x: u32/x: u16/
         s/imbalance\(answer.section, x\)/imbalance(answer.section, x as u32)/' "$copy/crates/panel/src/lib.rt" &&
@@ -145,16 +151,17 @@ narrowed() {
 
 # The laws are of the rounded stresses in place of the exact ones, and allow twice the area.
 hollow() {
-    local laws=crates/forces/proofs/Rounded.antt near='rw \3 (within-wider (within-exact C _) some (omega arith))'
-    copied && sed -i -E "s/^(area s =) (.*)/\\1 2 * (\\2)/
+    local laws=crates/forces/proofs/Rounded.antt near='rw \3 (within_wider (within_exact C _) some (omega arith))'
+    tests/copy "$copy" && sed -i -E "s/^(area s =) (.*)/\\1 2 * (\\2)/
         s/Over C \\((strip i|bar j)\\) \\((.*)\\)\\)/\\1 ≡ pos C *ℤ rounded (\\2))/
-        s/^(  (strip|bar)-near [ij] h =) stress-within .* (\\((strips|bars) [ij] h\\))$/\\1 $near/" "$copy/$laws" &&
+        s/^(  (strip|bar)_near [ij] h =) stress_within .* (\\((strips|bars) [ij] h\\))$/\\1 $near/" "$copy/$laws" &&
         [ "$(diff "$laws" "$copy/$laws" | grep -c '^>')" -eq 5 ]
 }
 
 check 'every public function is read' all_read
 check 'and read whole' all_contracts
 check 'each asks for nothing' all_free
+check 'each of the C face is exported as it is' all_exported
 check 'demand 1 is on each that refuses' stated Demand1.antt refusing
 check 'demand 2 is on each that answers' stated Demand2.antt answering
 check 'each is decided' all_decided
@@ -163,14 +170,13 @@ check 'every edit is explained' all_explained
 check 'a face that tells nothing can be made' untold
 check 'and proved' proved panel
 check 'the statements of it fail, and no other' \
-    refused_at '^  fw-[a-z-]+ = ' Decided.antt Demand1.antt Demand2.antt Demand3.antt Request1.antt Request2.antt \
+    refused_at '^  fw_[a-z_]+ = ' Decided.antt Demand1.antt Demand2.antt Demand3.antt Request1.antt Request2.antt \
     Request4.antt Request5.antt Request6.antt Request7.antt
 check 'a narrower face can be made' narrowed
 check 'and proved' proved panel
-check 'its widths are refused, and no other statement' refused_at '^  fw-(record|imbalance) = ' Widths.antt
+check 'its widths are refused, and no other statement' refused_at '^  fw_(record|imbalance) = ' Widths.antt
 check 'laws on hollow exact sums can be made' hollow
 check 'and proved' proved depths
 check 'the statements on exact sums fail, and no other' \
-    refused_at '^  (imbalance-is-near|moment-is-near|clearly-above|clearly-below) e = ' Demand3.antt
-rm -rf "$copy"
+    refused_at '^  (imbalance_is_near|moment_is_near|clearly_above|clearly_below) e = ' Demand3.antt
 verdict

@@ -3,8 +3,8 @@
 ghost use Rattle.std.specs.Prelude.{◌≡◌, ◌+◌, ◌*◌, ◌-◌, ◌≤◌, ◌<◌, pos, nat_abs, length, get_or};
 ghost use Rattle.booklines.specs.Line.{least_to, no_bending, bending_answer, line_of};
 
-use libc::{STDIN_FILENO, STDOUT_FILENO};
 use section::{Amount, Section};
+use std::io::{self, Read};
 
 #[derive(Clone, Copy)]
 struct Bending {
@@ -101,54 +101,49 @@ fn size(n: i64) -> u64
 }
 
 // After a space.
-fn print(n: i64) -> bool {
-    let signed = if n < 0 {
-        io::write_all(STDOUT_FILENO, b" -")
+fn print(rt: &HostRuntime, n: i64) -> io::Result<()> {
+    if n < 0 {
+        print!(rt; " -{}", size(n))
     } else {
-        io::write_all(STDOUT_FILENO, b" ")
-    };
-    signed & io::print_decimal(STDOUT_FILENO, size(n))
+        print!(rt; " {}", size(n))
+    }
 }
 
-fn print_line(number: u32, line: Line) -> bool {
+fn print_line(rt: &HostRuntime, number: u32, line: Line) -> io::Result<()> {
     let bending = line.bending;
     let shear = line.shear;
-    io::print_decimal(STDOUT_FILENO, number as u64)
-        & print(bending.refusal as i64)
-        & print(bending.count as i64)
-        & print(bending.depth)
-        & print(bending.kind)
-        & print(bending.moment)
-        & print(shear.refusal as i64)
-        & print(shear.amount)
-        & io::write_all(STDOUT_FILENO, b"\n")
+    print!(rt; "{number}")?;
+    print(rt, bending.refusal as i64)?;
+    print(rt, bending.count as i64)?;
+    print(rt, bending.depth)?;
+    print(rt, bending.kind)?;
+    print(rt, bending.moment)?;
+    print(rt, shear.refusal as i64)?;
+    print(rt, shear.amount)?;
+    println!(rt)
 }
 
 // Stops where a line can't be written.
-fn print_lines(bytes: &[u8], count: u32) {
+fn print_lines(rt: &HostRuntime, bytes: &[u8], count: u32) -> io::Result<()> {
     let mut number: u32 = 0;
     while number < count {
         let line = line_of(book::record(bytes, number));
-        if !print_line(number, line) {
-            return;
-        }
+        print_line(rt, number, line)?;
         number += 1;
     }
+    Ok(())
 }
 
-fn print_refusal(number: u32) {
-    io::write_all(STDOUT_FILENO, b"B ");
-    io::print_decimal(STDOUT_FILENO, number as u64);
-    io::write_all(STDOUT_FILENO, b"\n");
+fn print_refusal(rt: &HostRuntime, number: u32) -> io::Result<()> {
+    println!(rt; "B {number}")
 }
 
-fn print_book(bytes: &[u8]) {
+fn print_book(rt: &HostRuntime, bytes: &[u8]) -> io::Result<()> {
     let answer = book::book(bytes);
     if answer.refusal != 0 {
-        print_refusal(answer.refusal);
-        return;
+        return print_refusal(rt, answer.refusal);
     }
-    print_lines(bytes, answer.count);
+    print_lines(rt, bytes, answer.count)
 }
 
 // One byte more than a book may have, so that a longer one is refused and not cut.
@@ -158,8 +153,23 @@ fn room() -> [u8; 65537]
     [0; 65537]
 }
 
-fn main() {
+// Fills the space from its start until it is full, the input ends or a read fails, and says how much of it is filled.
+fn read_full<R: Read>(input: &mut R, space: &mut [u8]) -> usize
+    ensures { result ≤ length space.new }
+{
+    let mut done = 0;
+    while done < space.len() {
+        match input.read(&mut space[done..]) {
+            Ok(0) | Err(_) => break,
+            Ok(n) => done += n,
+        }
+    }
+    done
+}
+
+fn main(rt: HostRuntime) {
     let mut space = room();
-    let n = io::read_full(STDIN_FILENO, &mut space);
-    print_book(&space[..n]);
+    let n = read_full(&mut rt.stdin(), &mut space);
+    // There is nobody to tell where nothing can be written.
+    let _ = print_book(&rt, &space[..n]);
 }

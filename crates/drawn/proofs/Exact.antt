@@ -12,7 +12,7 @@ use Rattle.arith.proofs.Products.{narrow_product}
 use Rattle.arith.proofs.Signed.{abs_neg}
 use Rattle.law.specs.declared.Law.{Law}
 use Rattle.law.specs.Ranges.{Lawful}
-use Rattle.law.specs.Stress.{Stress, flat, ramp, parabola, compressed, stretched}
+use Rattle.law.specs.Stress.{flat, ramp, parabola}
 use Rattle.law.specs.Sizes.{Small}
 use Rattle.drawn.specs.declared.Piece.TheVariants.{Flat, Parabola}
 use Rattle.drawn.specs.Drawn.{stress_at, drawn_stress}

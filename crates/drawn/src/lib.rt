@@ -1,5 +1,6 @@
 // The law as the panel draws it: pieces in f64, and a point of a section's law at a whole strain (document 01, 'Stress at a strain').
 #![tactic(auto)]
+
 ghost use Rattle.std.specs.Prelude.{◌≡◌, ◌^◌, ◌<◌, nat_abs};
 ghost use Rattle.law.specs.Edition.{edition};
 ghost use Rattle.drawn.specs.Drawn.{in_drawn_range, refused, drawn_answer};

@@ -3,7 +3,7 @@
 use Prim.Native.Nat.{ℕ, ◌*◌, ◌<◌}
 use mathlib.Core.Bool.{true, false}
 use native.Mathlib.Omega.{arith}
-use lib.IntN.{ℤ, pos, ◌*ℤ◌}
+use lib.IntN.{pos, ◌*ℤ◌}
 use Rattle.arith.specs.Floor.{RoundsDown}
 use Rattle.arith.specs.Largest.{Largest, largest}
 use Rattle.arith.proofs.Largest.{largest_is}

@@ -1,5 +1,6 @@
 // The shear that a section resists (document 01, 'Shear'; document 02 [4]: its flange).
 #![tactic(auto)]
+
 ghost use Rattle.std.specs.Prelude.{◌≡◌, ◌+◌, ◌*◌, ◌^◌, ◌≤◌, ◌<◌, min, max, nat_abs};
 ghost use Rattle.arith.specs.Floor.{floor_div};
 ghost use Rattle.section.specs.Accepted.{Accepted};
