@@ -304,7 +304,8 @@ fn write_list(section: Section, kept: &[u8; 1000], row: &mut [i64])
     let mut at: usize = 0;
     for i in 0..last {
         let kind = kept[i];
-        if kind != 0 {
+        let listed = kind != 0;
+        if listed {
             let x = i + 1;
             row[at] = x as i64;
             row[at + 1] = kind as i64;

@@ -16,7 +16,8 @@ use Rattle.depths.proofs.first.Goals.{Else-answer-ne0, Else-last-found, Then-las
 met : (c : Else-answer-ne0) → let s = c.args.section in Accepted s × (c.of-answer.result.law ≡ law_of s)
 met c = passes _ c.of-answer.ensures c.if-answer-ne0.false
 
--- the depth that was found is the next listed one from depth 1 on
+-- what the walk found is the next listed depth from depth 1 on:
+-- past the grid's last there is none to list, inside the grid it is the list's first entry
 past : (c : Then-last-found) → last_depth c.args.section < c.next_listed-found.result.depth
 past c = omega (arith, c.if-last-found.true, c.last_depth-last.ensures)
 

@@ -14,7 +14,7 @@ use Rattle.depths.proofs.Kept.{kept_there}
 use Rattle.depths.proofs.Listed.{list_skips, count_more, count_grows}
 use Rattle.depths.proofs.Rows.{entry_stored}
 use Rattle.depths.proofs.write_list.Goals as goal
-use Rattle.depths.proofs.write_list.Goals.{After-kind-1, then-kind-ne0, else-kind-ne0}
+use Rattle.depths.proofs.write_list.Goals.{After-kind-1, then-listed, else-listed}
 
 -- the loop's end is the grid's
 grid : (c : After-kind-1) → c.loop-i.i + 1 ≤ last_depth c.args.section
@@ -48,46 +48,46 @@ pub bounds-kept-i : goal.bounds-kept-i
 bounds-kept-i c = omega (arith, c.last_depth-last.ensures, c.requires.0.sizes.1.1)
 
 pub overflow_add-x : goal.overflow_add-x
-overflow_add-x c = record { fits = omega (arith, (room (goal.at.overflow_add-x c).After-kind-1 c.if-kind-ne0.true).1) }
+overflow_add-x c = record { fits = omega (arith, (room (goal.at.overflow_add-x c).After-kind-1 c.if-listed.true).1) }
 
 pub overflow_cast-row : goal.overflow_cast-row
-overflow_cast-row c = record { sfits = omega (arith, (room (goal.at.overflow_cast-row c).After-kind-1 c.if-kind-ne0.true).1) }
+overflow_cast-row c = record { sfits = omega (arith, (room (goal.at.overflow_cast-row c).After-kind-1 c.if-listed.true).1) }
 
 pub offset_bounds-row-at : goal.offset_bounds-row-at
-offset_bounds-row-at c = record { fits = omega (arith, (room (goal.at.offset_bounds-row-at c).After-kind-1 c.if-kind-ne0.true).0) }
+offset_bounds-row-at c = record { fits = omega (arith, (room (goal.at.offset_bounds-row-at c).After-kind-1 c.if-listed.true).0) }
 
 pub bounds-row-at : goal.bounds-row-at
-bounds-row-at c = omega (arith, (room (goal.at.bounds-row-at c).After-kind-1 c.if-kind-ne0.true).0, c.loop-i.invariant.2)
+bounds-row-at c = omega (arith, (room (goal.at.bounds-row-at c).After-kind-1 c.if-listed.true).0, c.loop-i.invariant.2)
 
-pub overflow_cast-row-then-kind-ne0 : goal.overflow_cast-row-then-kind-ne0
-overflow_cast-row-then-kind-ne0 c = record { sfits = omega (arith, kind-is (goal.at.overflow_cast-row-then-kind-ne0 c).After-kind-1, kind_most c.args.section (c.loop-i.i + 1)) }
+pub overflow_cast-row-then-listed : goal.overflow_cast-row-then-listed
+overflow_cast-row-then-listed c = record { sfits = omega (arith, kind-is (goal.at.overflow_cast-row-then-listed c).After-kind-1, kind_most c.args.section (c.loop-i.i + 1)) }
 
 pub overflow_add-row : goal.overflow_add-row
-overflow_add-row c = record { fits = omega (arith, (room (goal.at.overflow_add-row c).After-kind-1 c.if-kind-ne0.true).0) }
+overflow_add-row c = record { fits = omega (arith, (room (goal.at.overflow_add-row c).After-kind-1 c.if-listed.true).0) }
 
-pub offset_bounds-row-at-then-kind-ne0 : goal.offset_bounds-row-at-then-kind-ne0
-offset_bounds-row-at-then-kind-ne0 c = record { fits = omega (arith, (room (goal.at.offset_bounds-row-at-then-kind-ne0 c).After-kind-1 c.if-kind-ne0.true).0) }
+pub offset_bounds-row-at-then-listed : goal.offset_bounds-row-at-then-listed
+offset_bounds-row-at-then-listed c = record { fits = omega (arith, (room (goal.at.offset_bounds-row-at-then-listed c).After-kind-1 c.if-listed.true).0) }
 
-pub bounds-row-at-then-kind-ne0 : goal.bounds-row-at-then-kind-ne0
-bounds-row-at-then-kind-ne0 c = let f = (room (goal.at.bounds-row-at-then-kind-ne0 c).After-kind-1 c.if-kind-ne0.true).0 in let n = c.loop-i.invariant.2 in simp length-set (omega arith)
+pub bounds-row-at-then-listed : goal.bounds-row-at-then-listed
+bounds-row-at-then-listed c = let f = (room (goal.at.bounds-row-at-then-listed c).After-kind-1 c.if-listed.true).0 in let n = c.loop-i.invariant.2 in simp length-set (omega arith)
 
 pub overflow_cast-x : goal.overflow_cast-x
-overflow_cast-x c = record { fits = omega (arith, (room (goal.at.overflow_cast-x c).After-kind-1 c.if-kind-ne0.true).1) }
+overflow_cast-x c = record { fits = omega (arith, (room (goal.at.overflow_cast-x c).After-kind-1 c.if-listed.true).1) }
 
 pub moment_at-requires : goal.moment_at-requires
 moment_at-requires c = (c.requires.0, omega arith, grid (goal.at.moment_at-requires c).After-kind-1)
 
 pub overflow_add-at : goal.overflow_add-at
-overflow_add-at c = record { fits = omega (arith, (room (goal.at.overflow_add-at c).After-kind-1 c.if-kind-ne0.true).0) }
+overflow_add-at c = record { fits = omega (arith, (room (goal.at.overflow_add-at c).After-kind-1 c.if-listed.true).0) }
 
-pub offset_bounds-row-at-then-kind-ne0-2 : goal.offset_bounds-row-at-then-kind-ne0-2
-offset_bounds-row-at-then-kind-ne0-2 c = record { fits = omega (arith, (room (goal.at.offset_bounds-row-at-then-kind-ne0-2 c).After-kind-1 c.if-kind-ne0.true).0) }
+pub offset_bounds-row-at-then-listed-2 : goal.offset_bounds-row-at-then-listed-2
+offset_bounds-row-at-then-listed-2 c = record { fits = omega (arith, (room (goal.at.offset_bounds-row-at-then-listed-2 c).After-kind-1 c.if-listed.true).0) }
 
-pub bounds-row-at-then-kind-ne0-2 : goal.bounds-row-at-then-kind-ne0-2
-bounds-row-at-then-kind-ne0-2 c = let f = (room (goal.at.bounds-row-at-then-kind-ne0-2 c).After-kind-1 c.if-kind-ne0.true).0 in let n = c.loop-i.invariant.2 in simp length-set (omega arith)
+pub bounds-row-at-then-listed-2 : goal.bounds-row-at-then-listed-2
+bounds-row-at-then-listed-2 c = let f = (room (goal.at.bounds-row-at-then-listed-2 c).After-kind-1 c.if-listed.true).0 in let n = c.loop-i.invariant.2 in simp length-set (omega arith)
 
-pub overflow_add-at-then-kind-ne0 : goal.overflow_add-at-then-kind-ne0
-overflow_add-at-then-kind-ne0 c = record { fits = omega (arith, (room (goal.at.overflow_add-at-then-kind-ne0 c).After-kind-1 c.if-kind-ne0.true).0) }
+pub overflow_add-at-then-listed : goal.overflow_add-at-then-listed
+overflow_add-at-then-listed c = record { fits = omega (arith, (room (goal.at.overflow_add-at-then-listed c).After-kind-1 c.if-listed.true).0) }
 
 pub loop-i-preserved : goal.loop-i-preserved
 loop-i-preserved c =
@@ -96,9 +96,9 @@ loop-i-preserved c =
     let k = kind_at a.section in
     let m = moment a.section in
     let is = kind-is (goal.at.loop-i-preserved c).After-kind-1 in
-    elim c.if-kind-ne0.branch [
-      | then-kind-ne0 w ↦
-          let then = w.if-kind-ne0.true in (
+    elim c.if-listed.branch [
+      | then-listed w ↦
+          let then = w.if-listed.true in (
             omega arith,
             w.at-is ∙ omega (arith, l.invariant.1, count_more k m l.i (some (goal.at.loop-i-preserved c).After-kind-1 then)),
             ap length w.row-is ∙ simp length-set l.invariant.2,
@@ -107,8 +107,8 @@ loop-i-preserved c =
                 (read_pos _ (omega (arith, is, kind_most a.section (l.i + 1))) ∙ ap pos is) (read (record { sfits = w.moment_at.type_inv }) ∙ w.moment_at.ensures)
                 ∙ ap (λ n. words (list_to k m (l.i + 1)) ++ drop n a.row.now) (sym w.at-is),
           )
-      | else-kind-ne0 w ↦
-          let same = list_skips k m l.i (sym is ∙ w.if-kind-ne0.false) in (
+      | else-listed w ↦
+          let same = list_skips k m l.i (sym is ∙ w.if-listed.false) in (
             omega arith,
             w.at-is ∙ l.invariant.1 ∙ ap (λ e. 3 * length e) (sym same),
             ap length w.row-is ∙ l.invariant.2,
