@@ -31,7 +31,7 @@ fn refuse(number: u32) -> StrengthAnswer
 }
 
 // Table 2, in hundredths; 0 where it does not have n.
-#[tactic(auto, unfolding(crate::specs::Strength::t10_of, crate::specs::Strength::under, crate::specs::Strength::numbers, crate::specs::Strength::fractiles,))]
+#[tactic(auto, unfolding(crate::specs::Strength::t10_of, crate::specs::Strength::under, crate::specs::Strength::numbers, crate::specs::Strength::fractiles))]
 fn t10(n: usize) -> u64
     ensures { result ≡ t10_of n }
 {

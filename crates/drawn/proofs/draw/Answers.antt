@@ -15,16 +15,16 @@ range : (c : After-drawable) → c.drawable.result ≡ in_drawn_range c.args.str
 range c = c.drawable.ensures ∙ ap in_drawn_range (read32 c.ranges.strain)
 
 pub returns-then-answer-ne0 : goal.returns-then-answer-ne0
-returns-then-answer-ne0 c = c.refused.ensures ∙ refuses_section _ _ _ c.of-answer.ensures c.if-answer-ne0.true
+returns-then-answer-ne0 c = c.refused.ensures ∙ refuses_section _ _ _ c.of-answer.ensures (λ e. omega arith)
 
 pub drawable-requires : goal.drawable-requires
-drawable-requires c = let k = passes _ c.of-answer.ensures c.if-answer-ne0.false in rw k.1 (law_in k.0).drawn
+drawable-requires c = let k = passes _ c.of-answer.ensures (omega arith) in rw k.1 (law_in k.0).drawn
 
 pub returns-then-not-drawable : goal.returns-then-not-drawable
 returns-then-not-drawable c =
     let r = range (goal.at.returns-then-not-drawable c).After-drawable in
     c.refused-then-not-drawable.ensures
-    ∙ refuses_strain _ _ _ c.of-answer.ensures c.if-answer-ne0.false (sym r ∙ c.if-not-drawable.true)
+    ∙ refuses_strain _ _ _ c.of-answer.ensures (omega arith) (sym r ∙ c.if-not-drawable.true)
 
 pub piece_at-requires : goal.piece_at-requires
 piece_at-requires c =
@@ -35,4 +35,4 @@ pub returns : goal.returns
 returns c =
     let r = range (goal.at.returns c).After-drawable in
     rw (c.at.ensures, c.piece_at.ensures, read32 c.ranges.strain)
-    (draws _ _ _ c.of-answer.ensures c.if-answer-ne0.false (sym r ∙ c.if-not-drawable.false))
+    (draws _ _ _ c.of-answer.ensures (omega arith) (sym r ∙ c.if-not-drawable.false))

@@ -1,21 +1,11 @@
 -- `area`: flange and web.
 use Prim.Native.Nat.{◌*◌, ◌≤◌, ◌<◌}
 use mathlib.Core.Path.{sym, subst}
-use native.Mathlib.Omega.{arith}
 use Rattle.section.proofs.Widths.{flange_inside, area_is, area_some, area_most}
 use Rattle.shear.proofs.area.Goals as goal
 
-pub overflow_mul-result : goal.overflow_mul-result
-overflow_mul-result c = let a = c.requires in record { fits = omega (arith, area_is a, area_most a) }
-
 pub overflow_sub-result : goal.overflow_sub-result
 overflow_sub-result c = flange_inside c.requires
-
-pub overflow_mul-result-2 : goal.overflow_mul-result-2
-overflow_mul-result-2 c = let a = c.requires in record { fits = omega (arith, area_is a, area_most a) }
-
-pub overflow_add-result : goal.overflow_add-result
-overflow_add-result c = let a = c.requires in record { fits = omega (arith, area_is a, area_most a) }
 
 pub returns : goal.returns
 returns c =
