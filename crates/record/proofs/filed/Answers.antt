@@ -1,5 +1,5 @@
 -- `filed`: refused or written, by the rule's test.
-use Prim.Native.Nat.{◌/◌}
+use Prim.Native.Nat.{◌/◌, ◌≤◌}
 use mathlib.Core.Path.{ap, ◌∙◌}
 use native.Mathlib.Omega.{arith}
 use borrow.Author.Tests.{le-leb, lt-leb}
@@ -11,7 +11,7 @@ use Rattle.record.proofs.filed.Goals as goal
 
 pub returns-then-m-gt8 : goal.returns-then-m-gt8
 unfolding filed_answer
-returns-then-m-gt8 c = rw (lt-leb _ 8 c.if-m-gt8.true)
+returns-then-m-gt8 c = rw (lt-leb c.args.s.count 8 (omega arith))
 
 pub in_bytes-requires : goal.in_bytes-requires
 in_bytes-requires c = omega (arith, c.record_size-len.ensures.0, flange_size_is c.args.s.hf)
@@ -20,7 +20,7 @@ pub returns : goal.returns
 unfolding filed_answer
 returns c =
     let s = c.args.s in
-    let few = c.if-m-gt8.false in
+    let few : s.count ≤ 8 = omega arith in
     let all = c.with_flange-all in
     let is = filed_by s few c.numbers.result all.result c.numbers.ensures all.ensures in
     let len = c.record_size-len.ensures.0 in

@@ -9,10 +9,10 @@ use lib.Signed.{le_z, non_neg}
 use mir.Syntax.{w32, w64}
 use mir.Val.{Fits, SFits, to_z, of_z}
 use borrow.Author.Tests.{le-ltb, le-leb}
+use borrow.Author.Rules.{rules}
 use Rattle.arith.proofs.Machine.{read32, read}
 use Rattle.record.specs.Filed.{unsigned32}
 use Rattle.record.proofs.unsigned.Goals as goal
-use Rattle.record.proofs.unsigned.Goals.{Else-z-ge0, Then-z-ge0}
 
 above : (z : ℤ) → SFits w32 z → le_z (pos 0) z ≡ true → T (non_neg z) × Fits w32 (nat_abs z) × (nat_abs z ≡ unsigned32 z)
 unfolding unsigned32
@@ -27,31 +27,39 @@ unfolding unsigned32
 below (pos n) f h = absurd (true≢false (sym (le-leb 0 n (omega arith)) ∙ h))
 below (negsuc n) f h = (rw (le-ltb 4294967296 (suc n) (omega (arith, f.sfits))), omega arith)
 
+sum_is : {z : ℤ} → SFits w32 z → le_z (pos 0) z ≡ false → to_z w64 (of_z w64 (to_z w32 (of_z w32 z))) +ℤ pos 4294967296 ≡ pos (unsigned32 z)
+sum_is f h = rw (read32 f, read (wide f)) (below _ f h).0
+
 -- ---- not below zero
-is_above : (c : Then-z-ge0) → let z = c.args.z in T (non_neg z) × Fits w32 (nat_abs z) × (nat_abs z ≡ unsigned32 z)
-is_above c = let f = c.ranges.z in above _ f (rw (read32 f) at c.if-z-ge0.true)
+pub overflow_cast-result : goal.overflow_cast-result
+overflow_cast-result c =
+    let f = c.ranges.z in
+    let k = above c.args.z f (search rules) in
+    rw (read32 f) (k.0, k.1)
+
+pub returns-then-z-ge0 : goal.returns-then-z-ge0
+returns-then-z-ge0 c =
+    let f = c.ranges.z in
+    rw (read32 f) (above c.args.z f (search rules)).2
 
 -- ---- below zero
-is_below : (c : Else-z-ge0) → let z = c.args.z in (z +ℤ pos 4294967296 ≡ pos (unsigned32 z)) × (unsigned32 z < 2 ^ 32)
-is_below c = let f = c.ranges.z in below _ f (rw (read32 f) at c.if-z-ge0.false)
-
-sum_is : (c : Else-z-ge0) → to_z w64 (of_z w64 (to_z w32 (of_z w32 c.args.z))) +ℤ pos 4294967296 ≡ pos (unsigned32 c.args.z)
-sum_is c = let f = c.ranges.z in rw (read32 f, read (wide f)) (is_below c).0
-
-pub overflow_cast-result : goal.overflow_cast-result
-overflow_cast-result c = rw (read32 c.ranges.z) ((is_above c).0, (is_above c).1)
-
 pub overflow_cast-result-else-z-ge0 : goal.overflow_cast-result-else-z-ge0
 overflow_cast-result-else-z-ge0 c = let f = c.ranges.z in rw (read32 f) (wide f)
 
 pub overflow_add-result : goal.overflow_add-result
-overflow_add-result c = rw (sum_is c) (record { sfits = omega (arith, (is_below c).1) })
+overflow_add-result c =
+    let f = c.ranges.z in
+    let h : le_z (pos 0) c.args.z ≡ false = search rules in
+    rw (sum_is f h) (record { sfits = omega (arith, (below _ f h).1) })
 
 pub overflow_cast-result-else-z-ge0-2 : goal.overflow_cast-result-else-z-ge0-2
-overflow_cast-result-else-z-ge0-2 c = rw (read (overflow_add-result c), sum_is c) (tt, record { fits = (is_below c).1 })
-
-pub returns-then-z-ge0 : goal.returns-then-z-ge0
-returns-then-z-ge0 c = rw (read32 c.ranges.z) (is_above c).2
+overflow_cast-result-else-z-ge0-2 c =
+    let f = c.ranges.z in
+    let h : le_z (pos 0) c.args.z ≡ false = search rules in
+    rw (read (overflow_add-result c), sum_is f h) (tt, record { fits = (below _ f h).1 })
 
 pub returns-else-z-ge0 : goal.returns-else-z-ge0
-returns-else-z-ge0 c = rw (read (overflow_add-result c), sum_is c)
+returns-else-z-ge0 c =
+    let f = c.ranges.z in
+    let h : le_z (pos 0) c.args.z ≡ false = search rules in
+    rw (read (overflow_add-result c), sum_is f h)

@@ -14,11 +14,11 @@ use Rattle.writer.proofs.put_records.Goals as goal
 use Rattle.writer.proofs.put_records.Goals.{After-record_at, After-size_at-at, At-loop-i}
 
 -- the record of this turn
-filed-now :
+filed_now :
     (c : After-record_at)
     → let s = as_written (section_at c.args.records.now c.loop-i.i) in
     Front s c.record_at.result × (c.record_at.result.len ≡ size_at c.args.records.now (place_at c.args.records.now c.loop-i.i))
-filed-now c =
+filed_now c =
     filed_there c.requires.0 c.loop-i.i (omega arith) (rw c.loop-i.invariant.1 at c.record_at.ensures)
 
 kept : (l : At-loop-i) → length l.loop-i.book ≡ length l.args.book.now
@@ -39,7 +39,7 @@ record_at-requires c =
 
 pub put_record-requires : goal.put_record-requires
 put_record-requires c =
-    let f = filed-now (goal.at.put_record-requires c).After-record_at in
+    let f = filed_now (goal.at.put_record-requires c).After-record_at in
     let r = c.args.records.now in
     let place = steps r c.loop-i.i c.loop-i.at _ c.loop-i.invariant.1 (f.1 ∙ ap (size_at r) (sym c.loop-i.invariant.1)) in
     let ends = ends_there c.requires.0 c.loop-i.i (omega arith) in
@@ -52,7 +52,7 @@ overflow_add-at c = record { fits = omega (arith, place c, ends_there c.requires
 pub loop-i-preserved : goal.loop-i-preserved
 loop-i-preserved c =
     let a = c.args in
-    (omega arith, place c, c.put_record.ensures ∙ record_on a.records.now a.book.now c.loop-i.i c.loop-i.at c.loop-i.invariant.1 _ c.loop-i.book (filed-now (goal.at.loop-i-preserved c).After-record_at).0.bytes c.loop-i.invariant.2)
+    (omega arith, place c, c.put_record.ensures ∙ record_on a.records.now a.book.now c.loop-i.i c.loop-i.at c.loop-i.invariant.1 _ c.loop-i.book (filed_now (goal.at.loop-i-preserved c).After-record_at).0.bytes c.loop-i.invariant.2)
 
 pub shape_of-book : goal.shape_of-book
 shape_of-book c = kept (goal.at.shape_of-book c).At-loop-i
