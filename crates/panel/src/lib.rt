@@ -1,5 +1,6 @@
-// The C face: what include/fordwhistle.h declares. Each function hands on to the crate that answers.
+// The functions of the C face, as include/fordwhistle.h declares them: each hands on to the crate that answers. `panel_c` exports them.
 #![tactic(auto)]
+
 ghost use Rattle.std.specs.Prelude.{◌≡◌, length};
 ghost use Rattle.class.specs.Class.{class_answer};
 ghost use Rattle.strength.specs.Strength.{strength_answer};

@@ -1,6 +1,7 @@
 // The C face: the exports that include/fordwhistle.h declares, each the function of its name in `panel`. That is a library, which Rattle crates
 // stand on, and a crate is no library and static library at once.
 #![tactic(auto)]
+
 ghost use Rattle.std.specs.Prelude.{◌≡◌, length};
 ghost use Rattle.class.specs.Class.{class_answer};
 ghost use Rattle.strength.specs.Strength.{strength_answer};

@@ -1,5 +1,6 @@
 -- `fw_draw`: the record's refusal, then the section's answer.
-use mathlib.Core.Path.{◌∙◌}
+use mathlib.Core.Path.{ap, ◌∙◌}
+use Rattle.arith.proofs.Machine.{read32}
 use Rattle.drawn.specs.Drawn.{refused, drawn_answer}
 use Rattle.panel.specs.Face.{drawn_of}
 use Rattle.record.proofs.Answers.{refuses_record, answers_record}
@@ -11,4 +12,7 @@ returns-then-answer-ne0 c = c.refused.ensures ∙ refuses_record _ (λ s. drawn_
 
 pub returns : goal.returns
 unfolding drawn_of
-returns c = c.draw.ensures ∙ answers_record _ (λ s. drawn_answer s c.args.strain) refused _ c.section_of-answer.ensures c.if-answer-ne0.false
+returns c =
+    c.draw.ensures
+    ∙ ap (drawn_answer c.section_of-answer.result.section) (read32 c.ranges.strain)
+    ∙ answers_record _ (λ s. drawn_answer s c.args.strain) refused _ c.section_of-answer.ensures c.if-answer-ne0.false
