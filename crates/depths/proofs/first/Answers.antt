@@ -1,5 +1,5 @@
 -- `first`: the three ways that the first depth is answered.
-use Prim.Native.Nat.{◌≤◌, ◌<◌}
+use Prim.Native.Nat.{◌≤◌}
 use mathlib.Core.Path.{◌≡◌, refl, ap, ◌∙◌}
 use native.Mathlib.Omega.{arith}
 use Rattle.arith.proofs.Machine.{read}
@@ -10,7 +10,7 @@ use Rattle.law.proofs.Answers.{passes}
 use Rattle.depths.specs.Answers.{work_to}
 use Rattle.depths.proofs.Answers.{refuses_first, first_none, first_found}
 use Rattle.depths.proofs.first.Goals as goal
-use Rattle.depths.proofs.first.Goals.{Else-answer-ne0, Else-last-found, Then-last-found}
+use Rattle.depths.proofs.first.Goals.{Else-answer-ne0, Else-last-found}
 
 -- a section that is not refused, and its law
 met : (c : Else-answer-ne0) → let s = c.args.section in Accepted s × (c.of-answer.result.law ≡ law_of s)
@@ -18,9 +18,6 @@ met c = passes _ c.of-answer.ensures c.if-answer-ne0.false
 
 -- what the walk found is the next listed depth from depth 1 on:
 -- past the grid's last there is none to list, inside the grid it is the list's first entry
-past : (c : Then-last-found) → last_depth c.args.section < c.next_listed-found.result.depth
-past c = omega (arith, c.if-last-found.true, c.last_depth-last.ensures)
-
 inside : (c : Else-last-found) → c.next_listed-found.result.depth ≤ last_depth c.args.section
 inside c = omega (arith, c.if-last-found.false, c.last_depth-last.ensures)
 
@@ -37,7 +34,7 @@ pub returns-then-last-found : goal.returns-then-last-found
 returns-then-last-found c =
     let took = c.work_to-work.ensures
     ∙ ap (work_to c.args.section) c.last_depth-last.ensures in
-    c.no_depth.ensures ∙ first_none _ _ c.of-answer.ensures c.if-answer-ne0.false c.next_listed-found.ensures (past (goal.at.returns-then-last-found c).Then-last-found) took
+    c.no_depth.ensures ∙ first_none _ _ c.of-answer.ensures c.if-answer-ne0.false c.next_listed-found.ensures (omega (arith, c.if-last-found.true, c.last_depth-last.ensures)) took
 
 pub work_to-requires : goal.work_to-requires
 work_to-requires c = ((met (goal.at.work_to-requires c).Else-answer-ne0).0, c.next_listed-found.ensures.inside)

@@ -22,6 +22,8 @@ returns-then-section-eq0 c = rw (eq-eqb c.args.section.count 0 c.if-section-eq0.
 pub nonzero_div-result : goal.nonzero_div-result
 nonzero_div-result c = omega (arith, c.steel-steel.ensures.0, steel_some c.requires (pos_of_ne-zero c.if-section-eq0.false))
 
+-- the quotient is the effective depth,
+-- which is no more than h
 pub overflow_cast-result-2 : goal.overflow_cast-result-2
 overflow_cast-result-2 c = omega (arith, centroid c, (depth_in c.requires).1)
 
