@@ -130,7 +130,7 @@ refused_at() {
     shift
     (cd "$proofs" && grep -HnE "$pattern" "$@") | cut -d: -f1,2 | sort >target/tests/expected
     proved demands
-    [ "$?" -eq 1 ] && sed -nE '/was not admitted/d
+    [ "$?" -eq 1 ] && sed -nE '/was not admitted|(was|were) not checked/d
         s/^(.*\/)?proofs\/([A-Za-z0-9]+\.antt:[0-9]+):[0-9]+: error.*/\2/p' target/tests/weakened.log |
         sort -u | same
 }

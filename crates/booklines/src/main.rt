@@ -1,5 +1,6 @@
 // The book program: reads a book from standard input and prints a line a record (document 01, 'Figures to meet').
 #![tactic(auto)]
+
 ghost use Rattle.std.specs.Prelude.{◌≡◌, ◌+◌, ◌*◌, ◌-◌, ◌≤◌, ◌<◌, pos, nat_abs, length, get_or};
 ghost use Rattle.booklines.specs.Line.{least_to, no_bending, bending_answer, line_of};
 
