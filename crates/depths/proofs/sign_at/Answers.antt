@@ -2,10 +2,10 @@
 use Prim.Native.Nat.{ℕ}
 use mathlib.Core.Path.{◌≡◌, sym, ap, ◌∙◌}
 use native.Mathlib.Omega.{arith}
+use Rattle.std.proofs.lemmas.Int.{ints}
 use lib.IntN.{pos}
 use lib.Signed.{lt_z}
-use Rattle.arith.proofs.Machine.{read, stands_fits, stored}
-use Rattle.section.proofs.Load.{load_held_is, load_in_m_n}
+use Rattle.arith.proofs.Machine.{read, stored}
 use Rattle.law.specs.Law.{law_of}
 use Rattle.strips.specs.Strips.{scale_of}
 use Rattle.forces.specs.Forces.{strain_scale, imbalance}
@@ -13,7 +13,7 @@ use Rattle.forces.proofs.Strains.{axis_is}
 use Rattle.forces.proofs.Answers.{amount_there}
 use Rattle.depths.specs.Code.{sign_of}
 use Rattle.depths.proofs.Sided.{sign_below, sign_above}
-use Rattle.depths.proofs.Within.{rest, bounded, is_below, is_above}
+use Rattle.depths.proofs.Within.{bounded, is_below, is_above}
 use Rattle.depths.proofs.sign_at.Goals as goal
 use Rattle.depths.proofs.sign_at.Goals.{After-axis_at-axis, After-bars_force, Start}
 
@@ -36,19 +36,8 @@ strips_force-strips-requires c = (c.requires.0, c.requires.1, (axis c).1)
 pub bars_force-requires : goal.bars_force-requires
 bars_force-requires c = (c.requires.0, c.requires.1, (axis (goal.at.bars_force-requires c).After-axis_at-axis).1)
 
-pub overflow_cast-rest : goal.overflow_cast-rest
-overflow_cast-rest c = stands_fits (load_held_is (start (goal.at.overflow_cast-rest c).After-bars_force).requires.0) (omega arith)
-
-pub overflow_mul-rest : goal.overflow_mul-rest
-overflow_mul-rest c = stands_fits (load_in_m_n (start (goal.at.overflow_mul-rest c).After-bars_force).requires.0) (omega arith)
-
-pub overflow_sub-rest : goal.overflow_sub-rest
-overflow_sub-rest c = stands_fits (rest (start (goal.at.overflow_sub-rest c).After-bars_force).requires.0 c.bars_force.result c.bars_force.ensures.1) (omega arith)
-
 pub overflow_add-strips : goal.overflow_add-strips
-overflow_add-strips c =
-    let r = c.strips_force-strips in
-    stands_fits (bounded (start (goal.at.overflow_add-strips c).After-bars_force).requires.0 c.bars_force.result c.bars_force.ensures.1 r.result.high r.ensures.high_most) (omega arith)
+overflow_add-strips c = omega (arith, ints, c.strips_force-strips.ensures.high_most, c.strips_force-strips.ensures.low_most, c.bars_force.ensures.1)
 
 pub returns-then-strips-rest-lt0 : goal.returns-then-strips-rest-lt0
 returns-then-strips-rest-lt0 c =
@@ -58,9 +47,7 @@ returns-then-strips-rest-lt0 c =
     asked (goal.at.returns-then-strips-rest-lt0 c).After-bars_force (sign_below _ (is_below s _ c.bars_force.ensures.0 r.ensures.below (ap (λ z. lt_z z (pos 0)) (sym (stored k (omega arith)).is) ∙ c.if-strips-rest-lt0.true)))
 
 pub overflow_add-strips-2 : goal.overflow_add-strips-2
-overflow_add-strips-2 c =
-    let r = c.strips_force-strips in
-    stands_fits (bounded (start (goal.at.overflow_add-strips-2 c).After-bars_force).requires.0 c.bars_force.result c.bars_force.ensures.1 r.result.low r.ensures.low_most) (omega arith)
+overflow_add-strips-2 c = omega (arith, ints, c.strips_force-strips.ensures.high_most, c.strips_force-strips.ensures.low_most, c.bars_force.ensures.1)
 
 pub returns-then-strips-rest-gt0 : goal.returns-then-strips-rest-gt0
 returns-then-strips-rest-gt0 c =

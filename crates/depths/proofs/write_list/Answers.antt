@@ -75,7 +75,7 @@ pub overflow_cast-x : goal.overflow_cast-x
 overflow_cast-x c = record { fits = omega (arith, (room (goal.at.overflow_cast-x c).After-kind-1 c.if-listed.true).1) }
 
 pub moment_at-requires : goal.moment_at-requires
-moment_at-requires c = (c.requires.0, omega arith, grid (goal.at.moment_at-requires c).After-kind-1)
+moment_at-requires c = (c.requires.0, omega arith, omega (arith, c.last_depth-last.ensures))
 
 pub overflow_add-at : goal.overflow_add-at
 overflow_add-at c = record { fits = omega (arith, (room (goal.at.overflow_add-at c).After-kind-1 c.if-listed.true).0) }

@@ -43,7 +43,7 @@ pub overflow_cast-x : goal.overflow_cast-x
 overflow_cast-x c = record { fits = omega (arith, (met (goal.at.overflow_cast-x c).Else-not-x-last_depth).3, (met (goal.at.overflow_cast-x c).Else-not-x-last_depth).0.sizes.1.1) }
 
 pub sums_at-sums-requires : goal.sums_at-sums-requires
-sums_at-sums-requires c = met (goal.at.sums_at-sums-requires c).Else-not-x-last_depth
+sums_at-sums-requires c = let m = met (goal.at.sums_at-sums-requires c).Else-not-x-last_depth in (m.0, m.1, omega arith, omega (arith, m.2, m.3))
 
 pub returns-then-turning : goal.returns-then-turning
 returns-then-turning c =

@@ -3,8 +3,8 @@ use Prim.Native.Nat.{◌+◌, ◌*◌}
 use mathlib.Core.Path.{◌≡◌, ap, ◌∙◌}
 use native.Mathlib.Omega.{arith}
 use lib.IntN.{pos, ◌+ℤ◌, ◌-ℤ◌, ◌*ℤ◌}
-use Rattle.arith.proofs.Machine.{back, Stands, returned, stands_add, stands_sub, stands_fits, stored}
-use Rattle.section.proofs.Load.{load_held, load_held_is, load_in_m_n}
+use Rattle.arith.proofs.Machine.{back, Stands, returned, stands_add, stands_sub, stored}
+use Rattle.section.proofs.Load.{load_held, load_in_m_n}
 use Rattle.law.specs.Law.{law_of}
 use Rattle.strips.specs.Strips.{scale_of}
 use Rattle.forces.specs.Forces.{strain_scale, forces, moments, imbalance, moment}
@@ -54,21 +54,6 @@ strip_sums-strips-requires c = (c.requires.0, c.requires.1, (axis c).1)
 
 pub bar_sums-bars-requires : goal.bar_sums-bars-requires
 bar_sums-bars-requires c = (c.requires.0, c.requires.1, (axis (goal.at.bar_sums-bars-requires c).After-axis_at-axis).1)
-
-pub overflow_add-result : goal.overflow_add-result
-overflow_add-result c = stands_fits (force (goal.at.overflow_add-result c).After-bar_sums-bars) (omega arith)
-
-pub overflow_cast-result : goal.overflow_cast-result
-overflow_cast-result c = stands_fits (load_held_is (start (goal.at.overflow_cast-result c).After-bar_sums-bars).requires.0) (omega arith)
-
-pub overflow_mul-result : goal.overflow_mul-result
-overflow_mul-result c = stands_fits (load_in_m_n (start (goal.at.overflow_mul-result c).After-bar_sums-bars).requires.0) (omega arith)
-
-pub overflow_sub-result : goal.overflow_sub-result
-overflow_sub-result c = stands_fits (all (goal.at.overflow_sub-result c).After-bar_sums-bars) (omega arith)
-
-pub overflow_add-result-2 : goal.overflow_add-result-2
-overflow_add-result-2 c = stands_fits (turning (goal.at.overflow_add-result-2 c).After-bar_sums-bars) (omega arith)
 
 pub returns : goal.returns
 unfolding moment
