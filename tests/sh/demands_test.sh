@@ -12,19 +12,29 @@ specs=crates/demands/specs
 proofs=crates/demands/proofs
 
 # The public functions, crate by crate, a method after its type, each with its signature; the program's are not called
-# from outside, and the exports are the functions of their names in panel, over again (all_exported).
+# from outside, and the exports are the functions of their names in panel, over again (all_exported). A crate's modules
+# are private: what is called from outside stands in its lib.rt, or is of a type that this passes on by `pub use`.
+# What C gets of a Result is made by a `From`, which is read under the name that Rattle gives it.
 signatures() {
     awk '
-        FNR == 1 { split(FILENAME, path, "/"); type = "" }
-        /^impl / { type = $2 "." }
+        FNR == 1 { split(FILENAME, path, "/"); type = ""; module = path[4] != "lib.rt" }
+        /^pub use / { while ($0 !~ /;/ && (getline more) > 0) $0 = $0 more; gsub(/[a-z_]+::|[{},;]/, " "); for (i = 3; i <= NF; i++) passed[path[2] "." $i "."] = 1; next }
+        /^impl From<Result</ {
+            file = path[4]; sub(/.rt$/, ".", file)
+            made = $0; sub(/.* for /, "", made); sub(/ .*/, "", made)
+            count = split($0, words, /[^A-Za-z0-9]+/); name = made "From"
+            for (i = 3; i <= count && words[i] != "for"; i++) name = name toupper(substr(words[i], 1, 1)) substr(words[i], 2)
+            print path[2] "." file name ".from\t-> " made
+        }
+        /^impl / { type = $2 "."; sub(/<.*/, ".", type) }
         /^}/ { type = "" }
-        match($0, /pub fn [a-z0-9_]+/) {
+        match($0, /pub fn [a-z0-9_]+/) && (!module || passed[path[2] "." type]) {
             name = substr($0, RSTART, RLENGTH); sub(/.* /, "", name)
             while ($0 !~ /\)/ && (getline more) > 0) $0 = $0 more
             sub(/\(self/, "(self: " type)
             print path[2] "." type name "\t" $0
         }
-    ' crates/*/src/*.rt | grep -vE '^(booklines|panel_c)\.' | sort
+    ' crates/*/src/lib.rt crates/*/src/*.rt | grep -vE '^(booklines|panel_c)\.' | sort -u
 }
 
 # same: whether standard input is what target/tests/expected has, and that is something.
@@ -63,19 +73,15 @@ named() {
         awk '$1 in read { print read[$1] "\t" $2 } { read[$1] = $2 }' | sort
 }
 
-# Those that take a section, a record or a book, whatever they answer, and those whose answer bears a number, whatever
-# they take; but for what a section has, which is told of any section, and numbers in bytes, which are told of any.
+# Those that take a section, a record or a book, whatever they answer, and those whose answer is a Result or bears a
+# number, whatever they take; but for what a section has, which is told of any section, and bytes with the numbers in
+# them, which are told of any.
 refusing() {
     local answers
     answers=$(awk '/^pub struct / { name = $3 } /^    pub refusal: / { print name }' crates/*/src/*.rt | paste -sd '|')
-    signatures | grep -E "	.*(: Section\\b|&\\[u8\\]|-> ($answers)\\b)" | cut -f1 |
-        grep -vE '^(section\.Section\.(last_depth|steel)|record\.(byte|le32|layers_at|size_at))$' |
+    signatures | grep -E "	.*(: Section\\b|&\\[u8\\]|-> (Result|$answers)\\b)" | cut -f1 |
+        grep -vE '^(section\.Section\.(last_depth|steel)|record\.(byte|le32|layers_at|size_at|RecordBytes\.as_slice))$' |
         join -t '	' - <(named) | cut -f2 | sort
-}
-
-# Those that answer anything but a refusal.
-answering() {
-    contracts | grep -v '_refused$'
 }
 
 # Each contract is decided, and so is the row, or are the bytes, of one that is lent them to write.
@@ -83,7 +89,7 @@ all_decided() {
     {
         contracts | sed 's/.*/& &/'
         sed -nE 's/^abbrev pub ([a-z0-9_]+) : \(.* → List ℤ → Type 0\) → .*/\1_row \1/p
-            s/^abbrev pub ([a-z0-9_]+) : \(.* → Written → List ℕ → Type 0\) → .*/\1_bytes \1/p' "$specs/Every.antt"
+            s/^abbrev pub ([a-z0-9_]+) : \(.* → (Written|Result ℕ Refusal) → List ℕ → Type 0\) → .*/\1_bytes \1/p' "$specs/Every.antt"
     } | sort >target/tests/expected
     sed -nE 's/^  pub ([a-z0-9_]+) : One(In)? Contracts\.([a-z0-9_]+).*/\1 \3/p' "$specs/Decided.antt" | sort | same
 }
@@ -137,7 +143,7 @@ refused_at() {
 
 # The functions of the C face answer as they do, but their contracts tell nothing.
 untold() {
-    tests/copy "$copy" && sed -i '/^    ensures {/d' "$copy/crates/panel/src/lib.rt" && rm -r "$copy/crates/panel/proofs"
+    tests/copy "$copy" && sed -i '/^    ensures {/d' "$copy/crates/panel/src/lib.rt"
 }
 
 # Two of them take 16 bits where the header has 32.
@@ -145,7 +151,7 @@ narrowed() {
     tests/copy "$copy" && sed -i -E '/fn fw_record\(/s/number: u32/number: u16/
         s/record_place\(bytes, number\)/record_place(bytes, number as u32)/
         /fn fw_imbalance\(/s/x: u32/x: u16/
-        s/imbalance\(answer.section, x\)/imbalance(answer.section, x as u32)/' "$copy/crates/panel/src/lib.rt" &&
+        s/imbalance\(section, x\)/imbalance(section, x as u32)/' "$copy/crates/panel/src/lib.rt" &&
         [ "$(grep -c 'u16' "$copy/crates/panel/src/lib.rt")" -eq 4 ]
 }
 
@@ -163,7 +169,7 @@ check 'and read whole' all_contracts
 check 'each asks for nothing' all_free
 check 'each of the C face is exported as it is' all_exported
 check 'demand 1 is on each that refuses' stated Demand1.antt refusing
-check 'demand 2 is on each that answers' stated Demand2.antt answering
+check 'demand 2 is on each' stated Demand2.antt contracts
 check 'each is decided' all_decided
 check 'each of the C face has its widths' all_wide
 check 'every edit is explained' all_explained

@@ -1,13 +1,12 @@
--- Division that rounds down: between what it lies, and how the machine's division, which rounds towards zero, gives it. Assumes nothing.
+-- Division that rounds down: between what it lies, and that the library has it. Assumes nothing.
 use Prim.Native.Nat.{ℕ, ◌/◌, ◌≤◌, ◌<◌}
 use mathlib.Core.Path.{◌≡◌, refl}
 use native.Mathlib.Nat as NatL
 use native.Mathlib.Omega.{arith}
-use lib.Dec.{ltb→lt}
-use lib.IntN.{ℤ, pos, negsuc, ◌-ℤ◌, ◌*ℤ◌, nat_abs}
-use lib.Signed.{quot_z, ◌≤ℤ◌, ◌<ℤ◌}
+use lib.IntN.{ℤ, pos, negsuc, ◌*ℤ◌, nat_abs}
+use Rattle.std.specs.Int.{int_div_euclid}
 use Rattle.arith.specs.Floor.{floor_div, RoundsDown}
-use Rattle.arith.proofs.Signed.{same, parts_add, parts_minus, up_scale, dn_scale, parts_lt, parts_le}
+use Rattle.arith.proofs.Signed.{parts_add, up_scale, dn_scale, parts_lt, parts_le}
 
 pub floor_is : (z : ℤ) (d : ℕ) → 0 < d → RoundsDown z d (floor_div z d)
 unfolding floor_div
@@ -35,20 +34,8 @@ unfolding floor_div
 floor_most (pos a) d = NatL.div-le_self a d
 floor_most (negsuc a) d = omega (arith, NatL.div-le_self a d)
 
--- ---- by the machine's division
--- -1 - n has the bits of n turned over
-pub flip_neg : (a : ℕ) → negsuc 0 -ℤ negsuc a ≡ pos a
-flip_neg a = same _ _ (omega (arith, parts_minus (negsuc 0) (negsuc a)))
-
-flip_pos : (a : ℕ) → negsuc 0 -ℤ pos a ≡ negsuc a
-flip_pos a = same _ _ (omega (arith, parts_minus (negsuc 0) (pos a)))
-
-pub floor_neg : (n : ℤ) (d : ℕ) → n <ℤ pos 0 → negsuc 0 -ℤ quot_z (negsuc 0 -ℤ n) (pos d) ≡ floor_div n d
+-- ---- it is what the library's `div_euclid` gives
+pub floor_euclid : (z : ℤ) (d : ℕ) → int_div_euclid z (pos d) ≡ floor_div z d
 unfolding floor_div
-floor_neg (pos a) d h = absurd (omega (arith, ltb→lt a 0 h.lt))
-floor_neg (negsuc a) d h = rw (flip_neg a) (flip_pos (a / d))
-
-pub floor_pos : (n : ℤ) (d : ℕ) → pos 0 ≤ℤ n → quot_z n (pos d) ≡ floor_div n d
-unfolding floor_div
-floor_pos (negsuc a) d h = absurd h.le
-floor_pos (pos a) d h = refl
+floor_euclid (pos a) d = refl
+floor_euclid (negsuc a) d = refl

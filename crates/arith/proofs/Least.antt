@@ -8,6 +8,8 @@ use native.Mathlib.Nat as NatL
 use native.Mathlib.Omega.{arith}
 use lib.Dec.{leb}
 use borrow.Author.Tests.{le-leb, leb-true}
+use Rattle.std.specs.Int.{div_ceil}
+use Rattle.std.proofs.lemmas.Grind.{div_ceil_times}
 use Rattle.arith.specs.Largest.{Largest}
 use Rattle.arith.specs.Least.{Least, first_to, least, multiple}
 use Rattle.arith.proofs.Tests.{less_or_not}
@@ -84,3 +86,13 @@ module _ (m by : ℕ) (some : 0 < by) where
     reaches = omega (arith, (below quotient).0 (omega arith));
     least = λ k h. let more = (below k).1 (omega arith) in omega arith;
   }
+
+  -- and it is what the library's `div_ceil` gives
+  pub div_ceil_is : div_ceil m by ≡ quotient
+  div_ceil_is =
+      let n = div_ceil m by in
+      let times = div_ceil_times m by some in
+      let reaches = (below n).1 (omega (arith, times.0)) in
+      let most : n * by ≤ m + (by - 1) = omega (arith, times.1) in
+      let least : n ≤ quotient = (NatL.le-div_iff_mul-le some).1 most in
+      omega (arith, least, reaches)

@@ -3,6 +3,7 @@ pub mod Lines
 pub mod Signed
 pub mod Machine
 pub mod Sums
+pub mod Chains
 pub mod Rounding
 pub mod Lists
 pub mod Answers

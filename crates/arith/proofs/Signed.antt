@@ -2,11 +2,11 @@
 --     up z, dn z   z is up z - dn z, and one of them is 0
 use Prim.Native.Nat.{ℕ, zero, suc, ◌+◌, ◌-◌, ◌*◌, ◌≤◌, ◌<◌}
 use mathlib.Core.Path.{◌≡◌, refl, sym, ap, ◌∙◌, subst}
-use mathlib.Core.Bool.{Bool, true, false, not, cond, ◌&&◌, and-true, true≢false}
+use mathlib.Core.Bool.{Bool, true, false, not, cond, true≢false}
 use mathlib.Core.Logic.{◌⊎◌, inl, inr, ⊎_elim}
 use native.Mathlib.Nat as NatL
 use native.Mathlib.Omega.{arith}
-use lib.Dec.{T, ltb, leb, ltb→lt, nltb→le, lt→ltb, le→leb, leb→le, leb-suc-suc}
+use lib.Dec.{T, ltb, ltb→lt, nltb→le, lt→ltb, le→leb, leb→le}
 use lib.IntN.{ℤ, pos, negsuc, ◌+ℤ◌, ◌-ℤ◌, ◌*ℤ◌, neg_ℤ, sub_ℕ, *ℤ-zero, *ℤ-negsuc, neg_ℤ-neg_ℤ, nat_abs}
 use lib.Ieee.Bits.{is_true}
 use lib.Signed.{non_neg, lt_z, le_z, ◌≤ℤ◌, ◌<ℤ◌, le_z_yes, lt_z_yes, lt_z_no}
@@ -188,8 +188,3 @@ not_below (negsuc n) e = absurd (true≢false e)
 -- `omega (arith, zarith, ..)` reads and proves orders and equations of ℤ. What it does not find by itself is listed at its operands:
 -- `parts_add x y`, `parts_minus x y`, `up_scale n x`, `dn_scale n x`, `up_neg x`, `dn_neg x`, `abs_parts x`
 pub ruleset zarith = (lt_parts, le_parts, eq_parts, parts_lt, parts_le, same)
-
--- ---- a range that is the same both ways, from -(k + 1) to k + 1
-pub both_ways : (k : ℕ) (z : ℤ) → le_z (negsuc k) z && le_z z (pos (suc k)) ≡ leb (nat_abs z) (suc k)
-both_ways k (pos n) = refl
-both_ways k (negsuc n) = and-true (leb n k) ∙ sym (leb-suc-suc n k)

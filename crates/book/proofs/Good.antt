@@ -25,7 +25,10 @@ module _ (s : List ℕ) where
   pub letters_stand : Decides (letters_right s) (LettersStand s)
   unfolding letters_right
   letters_stand =
-      Iff.trans (is_both (is_both (is_both (is_same (byte_from_end s 4) 66) (is_same (byte_from_end s 3) 79)) (is_same (byte_from_end s 2) 79)) (is_same (byte_from_end s 1) 75))
+      Iff.trans
+      (is_both
+      (is_both (is_both (is_same (byte_from_end s 4) 66) (is_same (byte_from_end s 3) 79)) (is_same (byte_from_end s 2) 79))
+      (is_same (byte_from_end s 1) 75))
       (λ p. (p.0.0.0, p.0.0.1, p.0.1, p.1), λ p. (((p.0, p.1), p.2), p.3))
 
   pub index_stands : Decides (index_right s) (IndexStands s)

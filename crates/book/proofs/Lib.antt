@@ -1,3 +1,3 @@
-pub mod Answers
+pub mod Below
 pub mod Good
 pub mod Parts

@@ -11,11 +11,15 @@ use lib.ListN.{length, length-take, length-drop}
 use lib.Seq.{get_or-take, get_or-drop}
 use borrow.Author.Tests.{eq-eqb, le-leb}
 use Rattle.arith.specs.Lines.{line}
-use Rattle.arith.proofs.Answers.{of_answer, refuses}
-use Rattle.book.specs.declared.RecordAnswer.{RecordAnswer}
+use Rattle.arith.proofs.Answers.{refuses}
+use Rattle.std.specs.Prelude.{Ok, Err}
+use Rattle.refusal.specs.declared.Refusal.{Refusal}
+use Rattle.refusal.specs.Refusal.{Answers}
+use Rattle.refusal.proofs.Answers.{number_in}
+use Rattle.book.specs.declared.Place.{Place}
 use Rattle.record.specs.Record.{le16_at, layers_end, layers_at, flange_at, size_at, record_right, record_refusal}
 use Rattle.record.proofs.Length.{some_flange}
-use Rattle.book.specs.Book.{start_of, asked_refusal, no_record, record_answer, part_of, record_of}
+use Rattle.book.specs.Book.{start_of, asked_refusal, place_in, part_of, record_of}
 use Rattle.book.specs.Good.{GoodBook, StandsIn, Shows}
 use Rattle.book.proofs.Good.{good, asked}
 
@@ -45,7 +49,9 @@ module _ (s : List ℕ) (i : ℕ) where
     abbrev zero : ℕ
     zero = layers_end (layers_at s (start_of s i)) + 2
 
-    flange_zero : (hf : ℕ) → hf ≡ flange_at s (start_of s i) → eqb hf 0 || eqb (le16_at (record_of s i) zero) 0 ≡ eqb hf 0 || eqb (le16_at s (start_of s i + zero)) 0
+    flange_zero :
+        (hf : ℕ) → hf ≡ flange_at s (start_of s i)
+        → eqb hf 0 || eqb (le16_at (record_of s i) zero) 0 ≡ eqb hf 0 || eqb (le16_at s (start_of s i + zero)) 0
     flange_zero hf e =
         ⊎_elim (λ none. rw (eq-eqb hf 0 none))
         (λ some. ap (λ n. eqb hf 0 || eqb n 0) (part_le16 zero (omega (arith, some_flange (flange_at s (start_of s i)) (omega arith)))))
@@ -65,14 +71,15 @@ module _ (s : List ℕ) (i : ℕ) where
   pub empty_exactly : (record_of s i ≡ []) ↔ (asked_refusal s i ≡ 0 → ⊥)
   empty_exactly = (λ e ok. let n = (part_shows ok).size in let z = ap length e in omega arith, none_refused)
 
-  -- ---- the part at the place that is answered
-  module _ {a : RecordAnswer} (is : a ≡ record_answer s i) where
-    pub place_inside : a.at + a.len ≤ length s
-    unfolding record_answer
-    place_inside = rw is (of_answer (λ (x : RecordAnswer). x.at + x.len ≤ length s) (asked_refusal s i) _ no_record ends_inside (λ f. omega arith))
+  -- ---- the part at the place that is found
+  module _ {p : Place} (found : Answers (asked_refusal s i) (place_in s i) (Ok p)) where
+    pub place_inside : p.at + p.len ≤ length s
+    place_inside = rw found.value (ends_inside (sym found.number))
 
-    pub place_part : part_of s a.at (a.at + a.len - a.at) ≡ record_of s i
-    unfolding record_answer
-    place_part =
-        rw (add-sub_cancel_left a.at a.len, is)
-        (of_answer (λ (x : RecordAnswer). part_of s x.at x.len ≡ record_of s i) (asked_refusal s i) _ no_record (λ ok. sym (part_is ok)) (λ f. sym (none_refused f)))
+    pub place_part : part_of s p.at (p.at + p.len - p.at) ≡ record_of s i
+    place_part = rw (add-sub_cancel_left p.at p.len, found.value) (sym (part_is (sym found.number)))
+
+  pub none_found : {e : Refusal} → Answers (asked_refusal s i) (place_in s i) (Err e) → record_of s i ≡ []
+  none_found {e} none = none_refused (λ h. omega (arith, (number_in e).0, none.number))
+
+pub ruleset parts = (place_inside, place_part)

@@ -3,8 +3,7 @@ use Rattle.std.specs.Prelude.{ℕ, ◌+◌, ◌*◌, ◌-◌, Bool, cond, ◌&&�
 use Rattle.arith.specs.Answers.{unless_refused}
 use Rattle.arith.specs.Below.{all_below}
 use Rattle.arith.specs.Lines.{line, first_of, within}
-use Rattle.book.specs.declared.BookAnswer.{BookAnswer}
-use Rattle.book.specs.declared.RecordAnswer.{RecordAnswer}
+use Rattle.book.specs.declared.Place.{Place}
 use Rattle.record.specs.Record.{le32_at, layers_at, size_at}
 
 -- ---- the last 16 bytes: the place of the index, n, the length of the book, the letters BOOK
@@ -58,22 +57,14 @@ book_refusal s =
     (line (records_right s) 4
     0)))
 
-abbrev pub no_book : ℕ → BookAnswer
-no_book number = record { refusal = number; count = 0 }
-
-unfoldable pub book_answer : List ℕ → BookAnswer
-book_answer s = unless_refused (book_refusal s) (record { refusal = 0; count = count_of s }) no_book
-
 -- ---- a record of a book, by its number
 -- 5: n or more
 unfoldable pub asked_refusal : List ℕ → ℕ → ℕ
 asked_refusal s i = first_of (book_refusal s) (line (ltb i (count_of s)) 5 0)
 
-abbrev pub no_record : ℕ → RecordAnswer
-no_record number = record { refusal = number; at = 0; len = 0 }
-
-unfoldable pub record_answer : List ℕ → ℕ → RecordAnswer
-record_answer s i = unless_refused (asked_refusal s i) (record { refusal = 0; at = start_of s i; len = size_at s (start_of s i) }) no_record
+-- where it is, and its bytes
+abbrev pub place_in : List ℕ → ℕ → Place
+place_in s i = record { at = start_of s i; len = size_at s (start_of s i) }
 
 -- so many bytes of the book from a place on
 abbrev pub part_of : List ℕ → ℕ → ℕ → List ℕ

@@ -1,191 +1,145 @@
 // The section book (document 01): its checks, and a record as a part of it.
 #![tactic(auto)]
 
-ghost use Rattle.std.specs.Prelude.{◌≡◌, ◌+◌, ◌<◌, ◌^◌};
+ghost use Rattle.std.specs.Prelude.{◌≡◌, length, IfOk};
 ghost use Rattle.arith.specs.Below.{all_below};
-ghost use Rattle.book.specs.Code.{Sized};
-ghost use Rattle.book.specs.Book.{index_of, count_of, start_of, length_right, letters_right, index_right, ends_right, records_right, book_refusal, book_answer, asked_refusal, record_answer, record_of};
+ghost use Rattle.arith.specs.Lines.{line, Between};
+ghost use Rattle.refusal.specs.Refusal.{number_of, Answers};
+ghost use Rattle.book.specs.Book.{index_of, count_of, start_of, length_right, letters_right, index_right, ends_right, records_right, book_refusal, asked_refusal, place_in, record_of};
 
-use record::{byte, layers_at, le32, size_at};
+use record::{layers_at, le32, size_at};
+use refusal::Refusal;
 
-#[repr(C)]
+// Where a record of a book is, and its bytes.
 #[derive(Clone, Copy)]
-pub struct BookAnswer {
-    pub refusal: u32,
-    pub count: u32,
-}
-
-#[repr(C)]
-#[derive(Clone, Copy)]
-pub struct RecordAnswer {
-    pub refusal: u32,
+pub struct Place {
     pub at: u32,
     pub len: u32,
 }
 
-fn length_right(book: &[u8]) -> bool
-    ensures { result ≡ length_right book.now }
-{
-    let len = book.len();
-    if (16 <= len) & (len <= 65536) {
-        return le32(book, len - 8) as usize == len;
+// A book of a length that it may have and states, with the place of its index and its number of records as it states them.
+#[derive(Clone, Copy)]
+struct Stated<'a> {
+    bytes: &'a [u8],
+    index: u32,
+    count: u32,
+    ghost sized: { Between 16 65536 (length bytes.now) },
+    ghost index_is: { index ≡ index_of bytes.now },
+    ghost count_is: { count ≡ count_of bytes.now },
+}
+
+impl<'a> Stated<'a> {
+    #[tactic(auto, unfolding(crate::specs::Book::length_right))]
+    fn of(bytes: &'a [u8]) -> Result<Stated<'a>, Refusal>
+        ensures number { number_of result ≡ line (length_right bytes.now) 1 0 }
+        ensures of { IfOk result (λ b. b.bytes.now ≡ bytes.now) }
+    {
+        let len = bytes.len();
+        if !(16..=65536).contains(&len) || le32(bytes, len - 8) as usize != len {
+            return Err(Refusal::BookLength);
+        }
+        Ok(Stated {
+            bytes,
+            index: le32(bytes, len - 16),
+            count: le32(bytes, len - 12),
+        })
     }
-    false
-}
 
-fn letters_right(book: &[u8]) -> bool
-    requires { Sized book.now }
-    ensures { result ≡ letters_right book.now }
-{
-    let len = book.len();
-    (byte(book, len - 4) == 66)
-        & (byte(book, len - 3) == 79)
-        & (byte(book, len - 2) == 79)
-        & (byte(book, len - 1) == 75)
-}
-
-fn index_of(book: &[u8]) -> u32
-    requires { Sized book.now }
-    ensures { result ≡ index_of book.now }
-{
-    le32(book, book.len() - 16)
-}
-
-fn count_of(book: &[u8]) -> u32
-    requires { Sized book.now }
-    ensures { result ≡ count_of book.now }
-{
-    le32(book, book.len() - 12)
-}
-
-// In 64 bits: the three numbers may be any of 32.
-fn index_right(book: &[u8]) -> bool
-    requires { Sized book.now }
-    ensures { result ≡ index_right book.now }
-{
-    let index = index_of(book) as usize;
-    let n = count_of(book) as usize;
-    index + 4 * n + 16 == book.len()
-}
-
-fn start_of(book: &[u8], i: u32) -> u32
-    requires { Sized book.now }
-    ensures { result ≡ start_of book.now i }
-{
-    let index = index_of(book);
-    if i < count_of(book) {
-        return le32(book, index as usize + 4 * (i as usize));
+    #[tactic(auto, unfolding(crate::specs::Book::letters_right))]
+    fn letters_right(self) -> bool
+        ensures { result ≡ letters_right self.entry.bytes.now }
+    {
+        self.bytes.ends_with(b"BOOK")
     }
-    index
-}
 
-// A place past the end is met too: what is read there is 0. Where 3 has passed, such a record ends past the index.
-fn ends_right(book: &[u8], i: u32) -> bool
-    requires { Sized book.now × (i + 1 < 2 ^ 32) }
-    ensures { result ≡ ends_right book.now i }
-{
-    let start = start_of(book, i) as usize;
-    let m = layers_at(book, start);
-    let end = start + size_at(book, start);
-    (m <= 8) & (end <= index_of(book) as usize) & (end == start_of(book, i + 1) as usize)
-}
+    // In 64 bits: the three numbers may be any of 32.
+    #[tactic(auto, unfolding(crate::specs::Book::index_right))]
+    fn index_right(self) -> bool
+        ensures { result ≡ index_right self.entry.bytes.now }
+    {
+        self.index as usize + 4 * self.count as usize + 16 == self.bytes.len()
+    }
 
-// Each record, also after one that is wrong: a book so small is soon looked through.
-fn all_end_right(book: &[u8]) -> bool
-    requires { Sized book.now }
-    ensures { result ≡ all_below (count_of book.now) (ends_right book.now) }
-{
-    let n = count_of(book);
-    let mut right = true;
-    let mut i: u32 = 0;
-    while i < n {
-        right = right & ends_right(book, i);
-        i += 1;
+    #[tactic(auto, unfolding(crate::specs::Book::start_of))]
+    fn start(self, i: usize) -> u32
+        ensures { result ≡ start_of self.entry.bytes.now i }
+    {
+        if i < self.count as usize {
+            return le32(self.bytes, self.index as usize + 4 * i);
+        }
+        self.index
     }
-    right
-}
 
-fn records_right(book: &[u8]) -> bool
-    requires { Sized book.now }
-    ensures { result ≡ records_right book.now }
-{
-    (start_of(book, 0) == 0) & all_end_right(book)
-}
+    // A place past the end is met too: what is read there is 0. Where 3 has passed, such a record ends past the index.
+    #[tactic(auto, unfolding(crate::specs::Book::ends_right))]
+    fn ends_right(self, i: u32) -> bool
+        ensures { result ≡ ends_right self.entry.bytes.now i }
+    {
+        let start = self.start(i as usize) as usize;
+        let end = start + size_at(self.bytes, start);
+        layers_at(self.bytes, start) <= 8
+            && end <= self.index as usize
+            && end == self.start(i as usize + 1) as usize
+    }
 
-fn book_refusal(book: &[u8]) -> u32
-    ensures { result ≡ book_refusal book.now }
-{
-    if !length_right(book) {
-        return 1;
-    }
-    let lettered = letters_right(book);
-    let indexed = index_right(book);
-    if !lettered {
-        return 2;
-    }
-    if !indexed {
-        return 3;
-    }
-    // Not before 3 is tested: n may be 2^32 - 1.
-    if !records_right(book) {
-        return 4;
-    }
-    0
-}
-
-// The number of records of a book; or 1 to 4, and zero.
-pub fn book(bytes: &[u8]) -> BookAnswer
-    ensures { result ≡ book_answer bytes.now }
-{
-    let refusal = book_refusal(bytes);
-    if refusal != 0 {
-        return BookAnswer {
-            refusal: refusal,
-            count: 0,
-        };
-    }
-    BookAnswer {
-        refusal: 0,
-        count: count_of(bytes),
+    #[tactic(auto, unfolding(crate::specs::Book::records_right))]
+    fn records_right(self) -> bool
+        ensures { result ≡ records_right self.entry.bytes.now }
+    {
+        self.start(0) == 0 && (0..self.count).all(|i| self.ends_right(i))
     }
 }
 
-fn asked_refusal(bytes: &[u8], number: u32) -> u32
-    ensures { result ≡ asked_refusal bytes.now number }
+// A book that passes 1 to 4.
+#[tactic(auto, unfolding(crate::specs::Book::book_refusal))]
+fn checked(bytes: &[u8]) -> Result<Stated<'_>, Refusal>
+    ensures number { number_of result ≡ book_refusal bytes.now }
+    ensures of { IfOk result (λ b. b.bytes.now ≡ bytes.now) }
 {
-    let answer = book(bytes);
-    if answer.refusal != 0 {
-        return answer.refusal;
+    let book = Stated::of(bytes)?;
+    if !book.letters_right() {
+        return Err(Refusal::BookLetters);
     }
-    if number < answer.count { 0 } else { 5 }
+    if !book.index_right() {
+        return Err(Refusal::BookIndex);
+    }
+    if !book.records_right() {
+        return Err(Refusal::BookRecords);
+    }
+    Ok(book)
 }
 
-// Where a record of a book is, and its bytes; or 1 to 5, and zeros.
-pub fn record_place(bytes: &[u8], number: u32) -> RecordAnswer
-    ensures { result ≡ record_answer bytes.now number }
+// The number of records of a book; or 1 to 4.
+pub fn book(bytes: &[u8]) -> Result<u32, Refusal>
+    ensures { Answers (book_refusal bytes.now) (count_of bytes.now) result }
 {
-    let refusal = asked_refusal(bytes, number);
-    if refusal != 0 {
-        return RecordAnswer {
-            refusal: refusal,
-            at: 0,
-            len: 0,
-        };
+    Ok(checked(bytes)?.count)
+}
+
+// Where a record of a book is, and its bytes; or 1 to 5.
+#[tactic(auto, unfolding(crate::specs::Book::asked_refusal))]
+pub fn record_place(bytes: &[u8], number: u32) -> Result<Place, Refusal>
+    ensures { Answers (asked_refusal bytes.now number) (place_in bytes.now number) result }
+{
+    let book = checked(bytes)?;
+    if book.count <= number {
+        return Err(Refusal::RecordNumber);
     }
-    let at = start_of(bytes, number);
-    RecordAnswer {
-        refusal: 0,
-        at: at,
+    let at = book.start(number as usize);
+    Ok(Place {
+        at,
         len: size_at(bytes, at as usize) as u32,
-    }
+    })
 }
 
 // That part of the caller's book; where it is refused, the empty part.
+#[tactic(auto, using(crate::proofs::Parts::parts))]
 pub fn record(bytes: &[u8], number: u32) -> &[u8]
     ensures { result.now ≡ record_of bytes.now number }
 {
-    let place = record_place(bytes, number);
+    let Ok(place) = record_place(bytes, number) else {
+        return &[];
+    };
     let at = place.at as usize;
-    let end = at + place.len as usize;
-    &bytes[at..end]
+    &bytes[at..at + place.len as usize]
 }

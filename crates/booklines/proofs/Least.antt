@@ -1,31 +1,19 @@
 -- The least of some numbers is one of them, and none is below it. Assumes nothing.
-use Prim.Native.Nat.{ℕ, zero, suc, ◌+◌, ◌≤◌}
+use Prim.Native.Nat.{ℕ, zero, suc, ◌≤◌}
 use mathlib.Core.Path.{◌≡◌, refl}
 use mathlib.Core.Bool.{Bool, true, false, cond}
 use mathlib.Core.Logic.{⊎_elim}
 use native.Mathlib.Nat.{eq-or-lt_of_le}
-use native.Mathlib.Numerals.{add-one}
 use native.Mathlib.Omega.{arith}
 use lib.IntN.{ℤ}
+use Rattle.std.proofs.Common.{Option, Some, None, Bor}
+use Rattle.std.specs.Option.{IfSome, option_map}
+use Rattle.std.specs.Ordering.{is_lt, int_cmp}
+use Rattle.std.proofs.lemmas.Int.{ints}
 use lib.Signed.{lt_z, ◌≤ℤ◌, ◌<ℤ◌}
 use Rattle.arith.proofs.Signed.{lt_parts, le_parts, parts_le, test_lt, test_le}
 use Rattle.booklines.specs.Line.{lesser, least_to}
 
-module _ (f : ℕ → ℤ) (n : ℕ) where
-  pub least_falls : lt_z (f (n + 1)) (least_to f n) ≡ true → f (n + 1) ≡ least_to f (n + 1)
-  unfolding least_to
-  least_falls e = rw (add-one, rw add-one at e)
-
-  pub least_stays : lt_z (f (n + 1)) (least_to f n) ≡ false → least_to f n ≡ least_to f (n + 1)
-  unfolding least_to
-  least_stays e = rw (add-one, rw add-one at e)
-
-pub least_alike : (f g : ℕ → ℤ) (n : ℕ) → ((j : ℕ) → j ≤ n → f j ≡ g j) → least_to f n ≡ least_to g n
-unfolding least_to
-least_alike f g zero h = h 0 (omega arith)
-least_alike f g (suc n) h = rw (least_alike f g n (λ j l. h j (omega arith)), h (suc n) (omega arith))
-
--- ---- what it is
 pub record Least (f : ℕ → ℤ) (n : ℕ) (z : ℤ) : Type 0 where
   pub below : (i : ℕ) → i ≤ n → z ≤ℤ f i
   pub at : ℕ
@@ -64,3 +52,16 @@ least_is f zero = record {
   is = refl;
 }
 least_is f (suc n) = least_next f n (least_to f n) (least_is f n)
+
+-- there is no second
+pub least_found : {f : ℕ → ℤ} {n : ℕ} {z : ℤ} → Least f n z → z ≡ least_to f n
+least_found {f} {n} {z} l =
+    let m = least_is f n in
+    let over : least_to f n ≤ℤ z = rw l.is (m.below l.at l.inside) in
+    let under : z ≤ℤ least_to f n = rw m.is (l.below m.at m.inside) in
+    omega (arith, ints)
+
+-- what `min` picks, which no item is below, is not above the item at a place
+pub below_item : (o : Option (Bor ℤ)) (m x : ℤ) → IfSome o (λ y. is_lt (int_cmp y.now m) ≡ false) → option_map (λ y. y.now) o ≡ Some x → m ≤ℤ x
+below_item None m x h e = cc
+below_item (Some y) m x h e = let is : y.now ≡ x = cc in let le : m ≤ℤ y.now = grind (arith, ints) in rw is at le

@@ -1,2 +1,2 @@
-mod Least
+pub mod Least
 mod Lists

@@ -1,175 +1,129 @@
 // The book program: reads a book from standard input and prints a line a record (document 01, 'Figures to meet').
 #![tactic(auto)]
 
-ghost use Rattle.std.specs.Prelude.{◌≡◌, ◌+◌, ◌*◌, ◌-◌, ◌≤◌, ◌<◌, pos, nat_abs, length, get_or};
-ghost use Rattle.booklines.specs.Line.{least_to, no_bending, bending_answer, line_of};
+ghost use Rattle.std.specs.Prelude.{◌≡◌, ◌+◌, ◌*◌, ◌≤◌, ◌<◌, ℕ, ◌≤ℤ◌, pos, length, get_or, Some};
+ghost use Rattle.refusal.specs.Refusal.{number_of, Answers};
+ghost use Rattle.depths.specs.Depths.{listed};
+ghost use Rattle.depths.specs.Answers.{depths_refusal};
+ghost use Rattle.booklines.specs.Line.{bending_in, LineOf, line_text};
 
-use section::{Amount, Section};
+use refusal::Refusal;
+use section::Section;
+use std::fmt;
 use std::io::{self, Read};
 
-#[derive(Clone, Copy)]
+// How many depths are listed, the first of them with its kind, and the least moment.
+#[derive(Clone, Copy, Default)]
 struct Bending {
-    refusal: u32,
     count: u32,
     depth: i64,
     kind: i64,
     moment: i64,
 }
 
+// What a record's line has: its bending, and its shear.
 #[derive(Clone, Copy)]
 struct Line {
-    bending: Bending,
-    shear: Amount,
-}
-
-impl Bending {
-    fn refused(number: u32) -> Bending
-        ensures { result ≡ no_bending number }
-    {
-        Bending {
-            refusal: number,
-            count: 0,
-            depth: 0,
-            kind: 0,
-            moment: 0,
-        }
-    }
+    bending: Result<Bending, Refusal>,
+    shear: Result<i64, Refusal>,
 }
 
 // Three words for each depth of the highest section.
-fn row() -> [i64; 3000]
-    ensures { length result ≡ 3000 }
+const ROW: usize = 3000;
+
+// The least of the moments in the words of a list: the third of each depth's three.
+fn least_moment(words: &[i64]) -> i64
+    requires { 2 < length words.now }
+    ensures none_below { (j : ℕ) → 3 * j + 2 < length words.now → result ≤ℤ get_or words.now (3 * j + 2) (pos 0) }
+    ensures one_of_them { (j : ℕ) × (3 * j + 2 < length words.now) × (result ≡ get_or words.now (3 * j + 2) (pos 0)) }
 {
-    [0; 3000]
+    *words[2..].iter().step_by(3).min().unwrap()
 }
 
-// The least of the moments in the row.
-fn least_moment(row: &[i64], count: usize) -> i64
-    requires { (0 < count) × (3 * count ≤ length row.now) }
-    ensures { result ≡ least_to (λ j. get_or row.now (3 * j + 2) (pos 0)) (count - 1) }
+fn bending_of(section: Section) -> Result<Bending, Refusal>
+    ensures { Answers (depths_refusal section) (bending_in (listed section)) result }
 {
-    let mut least = row[2];
-    let mut j: usize = 0;
-    while j + 1 < count {
-        j += 1;
-        let moment = row[3 * j + 2];
-        if moment < least {
-            least = moment;
-        }
-    }
-    least
-}
-
-fn bending_of(section: Section) -> Bending
-    ensures { result ≡ bending_answer section }
-{
-    let mut row = row();
-    let listing = depths::depths(section, &mut row);
-    if listing.refusal != 0 {
-        return Bending::refused(listing.refusal);
-    }
-    Bending {
-        refusal: 0,
-        count: listing.count,
+    let mut row = [0; ROW];
+    let count = depths::depths(section, &mut row)?.count;
+    Ok(Bending {
+        count,
         depth: row[0],
         kind: row[1],
-        moment: least_moment(&row, listing.count as usize),
-    }
+        moment: least_moment(&row[..3 * count as usize]),
+    })
 }
 
-// The numbers of a record's line.
 fn line_of(part: &[u8]) -> Line
-    ensures { result ≡ line_of part.now }
+    ensures { LineOf part.now result }
 {
-    let answer = record::section_of(part);
-    if answer.refusal != 0 {
-        return Line {
-            bending: Bending::refused(answer.refusal),
-            shear: Amount::refused(answer.refusal),
-        };
-    }
+    let section = record::section_of(part);
     Line {
-        bending: bending_of(answer.section),
-        shear: shear::shear(answer.section),
+        bending: section.and_then(bending_of),
+        shear: section.and_then(shear::shear),
     }
 }
 
-fn size(n: i64) -> u64
-    ensures { result ≡ nat_abs n }
+// The number of a refusal, or 0.
+fn number_of<T: Drop>(answer: Result<T, Refusal>) -> u32
+    ensures { result ≡ number_of answer }
 {
-    // The least i64 has no opposite.
-    if n < 0 { (-1 - n) as u64 + 1 } else { n as u64 }
+    answer.err().map_or(0, u32::from)
 }
 
-// After a space.
-fn print(rt: &HostRuntime, n: i64) -> io::Result<()> {
-    if n < 0 {
-        print!(rt; " -{}", size(n))
-    } else {
-        print!(rt; " {}", size(n))
+// Zeros where refused.
+impl fmt::Display for Line {
+    ghost output = { λ line. Some (line_text line) };
+
+    fn fmt<W: fmt::Write>(&self, f: &mut fmt::Formatter<W>) -> fmt::Result {
+        let Line { bending, shear } = *self;
+        let Bending {
+            count,
+            depth,
+            kind,
+            moment,
+        } = bending.unwrap_or_default();
+        let amount = shear.unwrap_or_default();
+        write!(
+            f,
+            "{} {count} {depth} {kind} {moment} {} {amount}",
+            number_of(bending),
+            number_of(shear)
+        )
     }
-}
-
-fn print_line(rt: &HostRuntime, number: u32, line: Line) -> io::Result<()> {
-    let bending = line.bending;
-    let shear = line.shear;
-    print!(rt; "{number}")?;
-    print(rt, bending.refusal as i64)?;
-    print(rt, bending.count as i64)?;
-    print(rt, bending.depth)?;
-    print(rt, bending.kind)?;
-    print(rt, bending.moment)?;
-    print(rt, shear.refusal as i64)?;
-    print(rt, shear.amount)?;
-    println!(rt)
 }
 
 // Stops where a line can't be written.
 fn print_lines(rt: &HostRuntime, bytes: &[u8], count: u32) -> io::Result<()> {
-    let mut number: u32 = 0;
-    while number < count {
+    for number in 0..count {
         let line = line_of(book::record(bytes, number));
-        print_line(rt, number, line)?;
-        number += 1;
+        println!(rt; "{number} {line}")?;
     }
     Ok(())
 }
 
-fn print_refusal(rt: &HostRuntime, number: u32) -> io::Result<()> {
-    println!(rt; "B {number}")
-}
-
 fn print_book(rt: &HostRuntime, bytes: &[u8]) -> io::Result<()> {
-    let answer = book::book(bytes);
-    if answer.refusal != 0 {
-        return print_refusal(rt, answer.refusal);
+    match book::book(bytes) {
+        Ok(count) => print_lines(rt, bytes, count),
+        Err(refusal) => println!(rt; "B {}", u32::from(refusal)),
     }
-    print_lines(rt, bytes, answer.count)
 }
 
 // One byte more than a book may have, so that a longer one is refused and not cut.
-fn room() -> [u8; 65537]
-    ensures { 65537 ≡ length result }
-{
-    [0; 65537]
-}
+const ROOM: usize = 65537;
 
 // Fills the space from its start until it is full, the input ends or a read fails, and says how much of it is filled.
 fn read_full<R: Read>(input: &mut R, space: &mut [u8]) -> usize
     ensures { result ≤ length space.new }
 {
     let mut done = 0;
-    while done < space.len() {
-        match input.read(&mut space[done..]) {
-            Ok(0) | Err(_) => break,
-            Ok(n) => done += n,
-        }
+    while let Ok(n @ 1..) = input.read(&mut space[done..]) {
+        done += n;
     }
     done
 }
 
 fn main(rt: HostRuntime) {
-    let mut space = room();
+    let mut space = [0; ROOM];
     let n = read_full(&mut rt.stdin(), &mut space);
     // There is nobody to tell where nothing can be written.
     let _ = print_book(&rt, &space[..n]);

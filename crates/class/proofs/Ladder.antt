@@ -1,68 +1,57 @@
--- Climbing the ladder: since the steps rise, the last one that is at most f is the largest. Assumes nothing.
-use Prim.Native.Nat.{ℕ, ◌<◌, ◌≤◌, ◌+◌, max}
-use mathlib.Core.Path.{◌≡◌, refl}
-use mathlib.Core.Bool.{Bool, true, false, cond}
-use mathlib.Core.List.{List, [], ◌∷◌}
+-- Of the ladder's steps that are at most f the largest is the rule's, and there is none where f is below the first. Assumes nothing.
+use Rattle.std.proofs.Common.{◌≡◌, ℕ, ◌≤◌, ◌<◌, max, Bool, true, false, cond, leb, List, [], ◌∷◌, drop, Option, MatchOption, filter, refl, ◌∙◌, arith}
+use Rattle.std.specs.List.{fold, reduce, list_all}
 use native.Mathlib.Nat.{max-le}
-use native.Mathlib.Omega.{arith}
-use native.Mathlib.Numerals.{add-one}
-use lib.Dec.{leb}
-use lib.ListN.{drop, get_or}
-use lib.Seq.{drop-cons}
-use borrow.Author.Tests.{leb-true, le-leb, lt-leb}
-use Rattle.arith.specs.Below.{all_below}
-use Rattle.arith.proofs.Tests.{all_below_is}
+use borrow.Author.Tests.{leb-true, leb-false, lt-leb}
+use Rattle.arith.proofs.Tests.{both}
 use Rattle.class.specs.Class.{ladder, largest_step, step_of}
 
--- the table's rule: no rung is above the next
-rises : (i : ℕ) → i < 11 → get_or ladder i 0 ≤ get_or ladder (i + 1) 0
-unfolding ladder all_below
-rises i h = leb-true _ _ (all_below_is 11 (λ j. leb (get_or ladder j 0) (get_or ladder (j + 1) 0)) refl i h)
+module _ (f : ℕ) where
+  abbrev pub within_f : List ℕ → List ℕ
+  within_f ss = filter (λ s. leb s f) ss
 
-capped : (s f : ℕ) → cond (leb s f) s 0 ≤ f
-capped s f = pick (leb s f) refl
-  where
-    pick : (t : Bool) → leb s f ≡ t → cond t s 0 ≤ f
-    pick true e = leb-true s f e
-    pick false e = omega arith
+  -- the largest of any steps
+  best_by :
+      (s a : ℕ) (ss : List ℕ) (t : Bool) → leb s f ≡ t → ((b : ℕ) → fold max b (within_f ss) ≡ max b (largest_step ss f))
+      → fold max a (cond t (s ∷ within_f ss) (within_f ss)) ≡ max a (max (cond t s 0) (largest_step ss f))
+  best_by s a ss true e rest = rest (max a s) ∙ omega arith
+  best_by s a ss false e rest = rest a ∙ omega arith
 
-within : (ss : List ℕ) (f : ℕ) → largest_step ss f ≤ f
-unfolding largest_step
-within [] f = omega arith
-within (s ∷ ss) f = max-le (capped s f) (within ss f)
-
-step_within : (f : ℕ) → step_of f ≤ f
-unfolding step_of
-step_within f = within ladder f
-
--- at rung i the answer is the better of the step so far and of the rungs from i on
-pub record Climb (f step i : ℕ) : Type 0 where
-  pub best : step_of f ≡ max step (largest_step (drop i ladder) f)
-  pub low : i < 12 → step ≤ get_or ladder i 0
-
-pub start : (f : ℕ) → Climb f 0 0
-unfolding step_of
-start f = record { best = omega arith; low = λ h. omega arith }
-
-pub done : {f step : ℕ} → Climb f step 12 → (step ≡ step_of f) × (step ≤ f)
-unfolding ladder largest_step
-done {f} {step} k = let e : step ≡ step_of f = omega (arith, k.best) in (e, rw e (step_within f))
-
-module _ (f step i : ℕ) (h : i < 12) (k : Climb f step i) where
-  rest : drop i ladder ≡ get_or ladder i 0 ∷ drop (i + 1) ladder
-  unfolding ladder
-  rest = rw (add-one i) (drop-cons ladder i 0 (omega arith))
-
-  at_rung : step_of f ≡ max step (max (cond (leb (get_or ladder i 0) f) (get_or ladder i 0) 0) (largest_step (drop (i + 1) ladder) f))
+  best : (a : ℕ) (ss : List ℕ) → fold max a (within_f ss) ≡ max a (largest_step ss f)
   unfolding largest_step
-  at_rung = rw rest at k.best
+  best a [] = omega arith
+  best a (s ∷ ss) = best_by s a ss (leb s f) refl (λ b. best b ss)
 
-  pub stays : f < get_or ladder i 0 → Climb f step (i + 1)
-  stays j =
-      let e = rw (lt-leb (get_or ladder i 0) f j) at at_rung in
-      record { best = omega arith; low = λ l. omega (arith, k.low h, rises i (omega arith)) }
+  -- it is at most f
+  capped : (s : ℕ) (t : Bool) → leb s f ≡ t → cond t s 0 ≤ f
+  capped s true e = leb-true s f e
+  capped s false e = omega arith
 
-  pub up : get_or ladder i 0 ≤ f → Climb f (get_or ladder i 0) (i + 1)
-  up j =
-      let e = rw (le-leb (get_or ladder i 0) f j) at at_rung in
-      record { best = omega (arith, k.low h); low = λ l. rises i (omega arith) }
+  at_most : (ss : List ℕ) → largest_step ss f ≤ f
+  unfolding largest_step
+  at_most [] = omega arith
+  at_most (s ∷ ss) = max-le (capped s (leb s f) refl) (at_most ss)
+
+  -- none where all are above f
+  none : (low : ℕ) (ss : List ℕ) → f < low → list_all (λ s. leb low s) ss ≡ true → within_f ss ≡ []
+  none low [] below e = refl
+  none low (s ∷ ss) below e =
+      let b = both (leb low s) (list_all (λ s. leb low s) ss) e in
+      let above = leb-true low s b.0 in
+      rw (lt-leb s f (omega arith)) (none low ss below b.1)
+
+  -- so of the first step and more above it
+  picked_by :
+      (low : ℕ) (ss : List ℕ) (t : Bool) (r : Option ℕ) → leb low f ≡ t → list_all (λ s. leb low s) ss ≡ true
+      → r ≡ reduce max (cond t (low ∷ within_f ss) (within_f ss))
+      → MatchOption r (f < low) (λ s. (s ≡ max (cond t low 0) (largest_step ss f)) × (low ≤ s) × (s ≤ f))
+  picked_by low ss true r e above is =
+      let fits = leb-true low f e in
+      rw (is, best low ss) (refl, omega arith, max-le fits (at_most ss))
+  picked_by low ss false r e above is =
+      let below = leb-false low f e in
+      rw (is, none low ss below above) below
+
+  pub picked : (r : Option ℕ) → r ≡ reduce max (within_f ladder) → MatchOption r (f < 1000) (λ s. (s ≡ step_of f) × (1000 ≤ s) × (s ≤ f))
+  unfolding ladder step_of largest_step
+  picked r is = picked_by 1000 (drop 1 ladder) (leb 1000 f) r refl refl is

@@ -1,76 +1,58 @@
 // The class of a fibre concrete from its residual strengths fR1 and fR3 (document 01, 'Class').
 #![tactic(auto)]
 
-ghost use Rattle.std.specs.Prelude.{◌≡◌, cond, ◌≤◌, ◌<◌};
-ghost use Rattle.class.specs.Class.{step_of, letter_of, class_answer};
+ghost use Rattle.std.specs.Prelude.{◌≡◌, ◌≤◌, ◌<◌, ◌*◌, MatchOption};
+ghost use Rattle.refusal.specs.Refusal.{Answers};
+ghost use Rattle.class.specs.Class.{step_of, letter_by, class_refusal, class_of};
+
+mod answer;
+
+pub use answer::{Class, Letter};
+use refusal::Refusal;
 
 // Table 2 of document 001, in kPa.
 const LADDER: [u32; 12] = [
     1000, 1500, 2000, 2500, 3000, 3500, 4000, 4500, 5000, 6000, 7000, 8000,
 ];
 
-#[repr(C)]
-#[derive(Clone, Copy)]
-pub struct ClassAnswer {
-    pub refusal: u32,
-    pub step: u32,
-    pub letter: u32,
-}
-
-// The steps rise, so the last that is at most fR1 is the largest.
-fn step_of(fr1: u32) -> u32
-    ensures { (result ≡ step_of fr1) × (result ≤ fr1) }
+// The largest step that is at most fR1.
+fn step_of(fr1: u32) -> Option<u32>
+    ensures { MatchOption result (fr1 < 1000) (λ step. (step ≡ step_of fr1) × (1000 ≤ step) × (step ≤ fr1)) }
 {
-    let mut step: u32 = 0;
-    for rung in 0..12u32 {
-        let next = LADDER[rung as usize];
-        if next <= fr1 {
-            step = next;
-        }
-    }
-    step
+    LADDER.iter().copied().filter(|step| *step <= fr1).max()
 }
 
-fn letter_from(reached: bool, letter: u8, below: u8) -> u8
-    ensures { result ≡ cond reached letter below }
-{
-    if reached { letter } else { below }
-}
-
-// By fR3 over the step, from the lowest letter up.
-fn letter_of(step: u32, fr3: u32) -> u8
+// By fR3 over the step.
+fn letter_of(step: u32, fr3: u32) -> Letter
     requires { (step < 65536) × (fr3 < 65536) }
-    ensures { result ≡ letter_of step fr3 }
+    ensures { result ≡ letter_by step fr3 }
 {
     let tenths = 10 * fr3;
-    let letter = letter_from(7 * step <= tenths, b'b', b'a');
-    let letter = letter_from(9 * step <= tenths, b'c', letter);
-    let letter = letter_from(11 * step <= tenths, b'd', letter);
-    letter_from(13 * step <= tenths, b'e', letter)
+    if 13 * step <= tenths {
+        Letter::E
+    } else if 11 * step <= tenths {
+        Letter::D
+    } else if 9 * step <= tenths {
+        Letter::C
+    } else if 7 * step <= tenths {
+        Letter::B
+    } else {
+        Letter::A
+    }
 }
 
-// The step and the letter of a fibre concrete; or 17 and zeros.
-pub fn class(fr1: u16, fr3: u16) -> ClassAnswer
-    ensures { result ≡ class_answer fr1 fr3 }
+// The step and the letter of a fibre concrete; or 17.
+#[tactic(auto, unfolding(crate::specs::Class::class_refusal, crate::specs::Class::class_of))]
+pub fn class(fr1: u16, fr3: u16) -> Result<Class, Refusal>
+    ensures { Answers (class_refusal fr1 fr3) (class_of fr1 fr3) result }
 {
-    let fr1 = fr1 as u32;
-    let fr3 = fr3 as u32;
-    let refused = ClassAnswer {
-        refusal: 17,
-        step: 0,
-        letter: 0,
-    };
-    if fr1 < 1000 {
-        return refused;
-    }
-    let step = step_of(fr1);
-    if 2 * fr3 < step {
-        return refused;
-    }
-    let letter = letter_of(step, fr3) as u32;
-    ClassAnswer {
-        refusal: 0,
-        step: step,
-        letter: letter,
+    let fr1 = u32::from(fr1);
+    let fr3 = u32::from(fr3);
+    match step_of(fr1) {
+        Some(step) if step <= 2 * fr3 => Ok(Class {
+            step,
+            letter: letter_of(step, fr3),
+        }),
+        _ => Err(Refusal::Class),
     }
 }

@@ -1,6 +1,8 @@
 pub mod Table
+pub mod Results
 pub mod Shapes
 pub mod Work
+pub mod Told
 pub mod Free
 pub mod Demand1
 pub mod Demand2

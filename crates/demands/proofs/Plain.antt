@@ -8,7 +8,7 @@ use native.Mathlib.Omega.{arith}
 use lib.Dec.{ltb, leb, eqb}
 use lib.IntN.{ℤ, pos, ◌+ℤ◌, ◌-ℤ◌, ◌*ℤ◌}
 use lib.ListN.{length}
-use borrow.Author.Tests.{eq-eqb, lt-leb}
+use borrow.Author.Tests.{eq-eqb}
 use Rattle.arith.specs.Answers.{unless_refused}
 use Rattle.arith.specs.Sums.{sum_z}
 use Rattle.arith.specs.Floor.{floor_div}
@@ -17,29 +17,25 @@ use Rattle.arith.proofs.Tests.{less_or_not}
 use Rattle.arith.proofs.Sums.{sum_same, sum_alike}
 use Rattle.section.specs.declared.Section.{Section}
 use Rattle.section.specs.declared.Layer.{Layer}
-use Rattle.section.specs.declared.Added.{Added}
 use Rattle.section.specs.Section.{layers_right}
 use Rattle.section.specs.Refusal.{in_table, flange_right, mid_right, section_refusal}
 use Rattle.section.specs.Has.{width_at, concrete_area, steel_area, steel_moment, load_of}
-use Rattle.section.specs.Added.{layer_refusal, with_layer, added_answer}
-use Rattle.section.specs.Amount.{answered, no_amount}
+use Rattle.section.specs.Added.{layer_refusal, with_layer}
 use Rattle.section.specs.Accepted.{SizesIn, FlangeIn}
 use Rattle.section.proofs.Accepted.{sizes_are, flange_is}
 use Rattle.section.proofs.Widths.{web_width, flange_width_is}
-use Rattle.law.specs.Law.{limit_depth, effective_depth, law_of, law_answer}
-use Rattle.law.specs.Law as Law
+use Rattle.law.specs.Law.{limit_depth, effective_depth, law_of}
 use Rattle.law.specs.Stress.{rounded}
-use Rattle.drawn.specs.Drawn.{point_at, in_drawn_range, drawn_refusal, drawn, drawn_answer}
-use Rattle.drawn.specs.Drawn as Drawn
+use Rattle.drawn.specs.Drawn.{in_drawn_range, drawn_refusal}
 use Rattle.forces.specs.Forces.{strip_stress, lever, strip_force, bar_force, strip_moment, bar_moment, forces, moments, imbalance, moment}
-use Rattle.forces.specs.Answers.{grid_refusal, amount_answer, imbalance_answer, moment_answer}
+use Rattle.forces.specs.Answers.{grid_refusal}
 use Rattle.depths.specs.Depths.{entry_of, kind_of, kind_at, list_to, listed, written}
 use Rattle.depths.specs.Answers.{depths_refusal, list_refusal, whole_work, unlisted, no_depth, no_first, looked_at_all}
 use Rattle.depths.specs.Answers.{list_answer, row_after, first_of_list, first_answer}
-use Rattle.shear.specs.Shear.{k_of, c_of, at_least_zero, axial_share, concrete_share, kf_of, fibre_share, stirrups, struts, resistance_under, resistance, shear_refusal, shear_answer}
+use Rattle.shear.specs.Shear.{k_of, c_of, at_least_zero, axial_share, concrete_share, kf_of, fibre_share, stirrups, struts}
+use Rattle.shear.specs.Shear.{resistance_under, resistance, shear_refusal}
 use Rattle.shear.proofs.Flange.{kf_without, kf_level}
-use Rattle.record.specs.Record.{record_size}
-use Rattle.record.specs.Filed.{filed, but, in_places, unfiled, filed_refusal, filed_answer}
+use Rattle.record.specs.Filed.{filed, but}
 use Rattle.record.proofs.Inverse.{flat_filed}
 use Rattle.demands.specs.Request4.{rectangle, Flat, Level, plain_imbalance, plain_moment, plain_list, plain_shear}
 
@@ -61,7 +57,8 @@ flat_plain {s} e = record { right = rw (eq-eqb s.hf 0 e); wide = λ i. web_width
 pub level_plain : {s : Section} → Level s → Plain s
 unfolding section_refusal layers_right mid_right
 level_plain {s} l = record {
-  right = ap (line (in_table s.fck) 7) (behind (within 50 2000 s.b && within 50 1000 s.h) (flange_right s) _ (λ e. (flange_is s).1 (inside ((sizes_are s).0 e))));
+  right = ap (line (in_table s.fck) 7)
+      (behind (within 50 2000 s.b && within 50 1000 s.h) (flange_right s) _ (λ e. (flange_is s).1 (inside ((sizes_are s).0 e))));
   wide = λ i. ⊎_elim (λ h. flange_width_is s i h ∙ l.0) (λ h. web_width s i h) (less_or_not i s.hf);
   kf = λ d. kf_level d s l.0;
 }
@@ -70,7 +67,7 @@ level_plain {s} l = record {
     inside z some = (l.1, (omega (arith, l.0), omega (arith, l.0, z.0.1)))
 
 -- ---- what is answered of it is what document 01 says
-same_law : (s : Section) → law_of s ≡ law_of (rectangle s)
+pub same_law : (s : Section) → law_of s ≡ law_of (rectangle s)
 unfolding effective_depth limit_depth steel_area steel_moment
 same_law s = refl
 
@@ -111,11 +108,11 @@ module _ {s : Section} (p : Plain s) where
   abbrev own : Plain (rectangle s)
   own = flat_plain {s = rectangle s} refl
 
-  imbalance_same : (x : ℕ) → imbalance s x ≡ imbalance (rectangle s) x
+  pub imbalance_same : (x : ℕ) → imbalance s x ≡ imbalance (rectangle s) x
   unfolding effective_depth limit_depth steel_area steel_moment bar_force
   imbalance_same x = imbalance_plain p x ∙ sym (imbalance_plain own x)
 
-  moment_same : (x : ℕ) → moment s x ≡ moment (rectangle s) x
+  pub moment_same : (x : ℕ) → moment s x ≡ moment (rectangle s) x
   unfolding effective_depth limit_depth steel_area steel_moment bar_force bar_moment
   moment_same x = moment_plain p x ∙ sym (moment_plain own x)
 
@@ -123,29 +120,22 @@ module _ {s : Section} (p : Plain s) where
   unfolding kind_at
   list_same = λ j. list_to (kind_of (λ x. imbalance_same x j) s.h) (λ x. moment_same x j) s.h
 
-  shear_same : resistance s ≡ resistance (rectangle s)
+  pub shear_same : resistance s ≡ resistance (rectangle s)
   unfolding effective_depth limit_depth steel_area steel_moment
   shear_same = shear_plain p ∙ sym (shear_plain own)
 
-  pub law_alike : law_answer s ≡ law_answer (rectangle s)
-  unfolding law_answer
-  law_alike = λ j. unless_refused (p.right j) (Law.answered (same_law s j)) Law.refused
+  -- and its refusals
+  pub drawn_alike : (e : ℤ) → drawn_refusal s e ≡ drawn_refusal (rectangle s) e
+  unfolding drawn_refusal
+  drawn_alike e = ap (λ (n : ℕ). first_of n (line (in_drawn_range e) 18 0)) p.right
 
-  pub draw_alike : (e : ℤ) → drawn_answer s e ≡ drawn_answer (rectangle s) e
-  unfolding drawn_answer drawn_refusal
-  draw_alike e = λ j. unless_refused (first_of (p.right j) (line (in_drawn_range e) 18 0)) (drawn (point_at (same_law s j) e)) Drawn.refused
+  pub grid_alike : (x : ℕ) → grid_refusal s x ≡ grid_refusal (rectangle s) x
+  unfolding grid_refusal
+  grid_alike x = ap (λ (n : ℕ). first_of n (line (within 1 s.h x) 18 0)) p.right
 
-  pub imbalance_alike : (x : ℕ) → imbalance_answer s x ≡ imbalance_answer (rectangle s) x
-  unfolding amount_answer grid_refusal
-  imbalance_alike x = λ j. unless_refused (first_of (p.right j) (line (within 1 s.h x) 18 0)) (answered (imbalance_same x j)) no_amount
-
-  pub moment_alike : (x : ℕ) → moment_answer s x ≡ moment_answer (rectangle s) x
-  unfolding amount_answer grid_refusal
-  moment_alike x = λ j. unless_refused (first_of (p.right j) (line (within 1 s.h x) 18 0)) (answered (moment_same x j)) no_amount
-
-  pub shear_alike : shear_answer s ≡ shear_answer (rectangle s)
-  unfolding shear_answer shear_refusal
-  shear_alike = λ j. unless_refused (first_of (p.right j) (line (ltb 0 s.count) 16 0)) (answered (pos (shear_same j))) no_amount
+  pub shear_alike : shear_refusal s ≡ shear_refusal (rectangle s)
+  unfolding shear_refusal
+  shear_alike = ap (λ (n : ℕ). first_of n (line (ltb 0 s.count) 16 0)) p.right
 
   none_alike : depths_refusal s ≡ depths_refusal (rectangle s)
   unfolding depths_refusal
@@ -170,26 +160,16 @@ module _ {s : Section} (p : Plain s) where
 
 -- ---- a section that is filed, and one with a layer added
 module _ (s : Section) (e : Flat s) where
-  as_filed : s.count ≤ 8 → filed s ≡ filed (rectangle s)
+  pub as_filed : s.count ≤ 8 → filed s ≡ filed (rectangle s)
   as_filed few =
       let bare : filed (but s 0 s.spacing s.layers) ≡ filed (rectangle s) = rw e in
       sym (flat_filed s 0 e few) ∙ bare
 
-  pub filed_alike : filed_answer s ≡ filed_answer (rectangle s)
-  unfolding filed_answer
-  filed_alike =
-      ⊎_elim (λ many. rw (lt-leb s.count 8 many))
-      (λ few. λ j. unless_refused (filed_refusal s) (record { refusal = 0; len = record_size s.count (e j); bytes = in_places (as_filed few j) }) unfiled)
-      (less_or_not 8 s.count)
+-- a layer is taken and put in as into the rectangle
+pub taken_alike : (s : Section) (l : Layer) → layer_refusal s l ≡ layer_refusal (rectangle s) l
+unfolding layer_refusal layers_right
+taken_alike s l = refl
 
-  pub added_alike :
-      (l : Layer) {x y : Added} → x ≡ added_answer s l → y ≡ added_answer (rectangle s) l
-      → (x.refusal ≡ y.refusal) × (rectangle x.section ≡ y.section)
-  unfolding added_answer layer_refusal layers_right with_layer
-  added_alike l is js = rw (is, js) (pick (eqb (layer_refusal s l) 0))
-    where
-      pick : (t : Bool)
-          → let f : Section → Added = λ v. cond t (record { refusal = 0; section = with_layer v l }) (record { refusal = layer_refusal s l; section = v }) in
-          ((f s).refusal ≡ (f (rectangle s)).refusal) × (rectangle (f s).section ≡ (f (rectangle s)).section)
-      pick true = (refl, refl)
-      pick false = (refl, refl)
+pub added_alike : (s : Section) (l : Layer) → rectangle (with_layer s l) ≡ with_layer (rectangle s) l
+unfolding with_layer
+added_alike s l = refl

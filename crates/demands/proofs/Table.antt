@@ -31,12 +31,14 @@ use Rattle.book.specs.Book.{count_of, book_refusal, asked_refusal}
 use Rattle.record.proofs.Alone.{stands_alone}
 use Rattle.book.proofs.Good.{length_stands, letters_stand, index_stands, records_exactly}
 use Rattle.writer.specs.Records.{part_from, place_at, refusal_at, count_in, first_below, records_refusal}
-use Rattle.writer.specs.Written.{book_in, write_refusal, add_refusal}
+use Rattle.writer.specs.Written.{book_in, write_refusal, add_refusal, added_refusal}
 use Rattle.class.specs.Class.{class_refusal}
 use Rattle.class.proofs.Refused.{class_line, class_in}
 use Rattle.strength.specs.Strength.{mean_of, series_a, series_g, strength_refusal}
 use Rattle.strength.proofs.Refused.{number_is, results_are}
-use Rattle.demands.specs.Table.{Line, ◌unless◌, First, book_lines, asked_lines, lone_lines, section_lines, layer_lines, filed_lines, record_lines, records_lines, write_lines, add_lines, first_lines, depths_lines, shear_lines, class_lines, strength_lines, strain_lines, grid_lines}
+use Rattle.demands.specs.Table.{Line, ◌unless◌, First, book_lines, asked_lines, lone_lines, section_lines, layer_lines, filed_lines, record_lines}
+use Rattle.demands.specs.Table.{records_lines}
+use Rattle.demands.specs.Table.{write_lines, add_lines, first_lines, depths_lines, shear_lines, class_lines, strength_lines, strain_lines, grid_lines}
 use Rattle.demands.specs.Demand1.{ByTable}
 
 -- ---- lines in order
@@ -44,7 +46,9 @@ no_line : First [] 0
 unfolding First
 no_line = refl
 
-line_first : {t : Bool} {P : Type 0} (number : ℕ) (ls : List Line) (below : ℕ) → Decides t P → First ls below → First ((number unless P) ∷ ls) (line t number below)
+line_first :
+    {t : Bool} {P : Type 0} (number : ℕ) (ls : List Line) (below : ℕ) → Decides t P → First ls below
+    → First ((number unless P) ∷ ls) (line t number below)
 unfolding First
 line_first {t = true} number ls below d f = inr (d.0 refl, f)
 line_first {t = false} number ls below d f = inl (λ p. false≢true (d.1 p), refl)
@@ -98,7 +102,12 @@ then_first (l ∷ ls) ms n m t (inr f) g = inr (f.0, then_first ls ms n m (other
 -- ---- the table
 pub book_first : (s : List ℕ) → First (book_lines s) (book_refusal s)
 unfolding book_refusal
-book_first s = line_first 1 _ _ (length_stands s) (line_first 2 _ _ (letters_stand s) (line_first 3 _ _ (index_stands s) (line_first 4 _ _ (records_exactly s) no_line)))
+book_first s =
+    line_first 1 _ _ (length_stands s)
+    (line_first 2 _ _ (letters_stand s)
+    (line_first 3 _ _ (index_stands s)
+    (line_first 4 _ _ (records_exactly s)
+    no_line)))
 
 pub asked_first : (s : List ℕ) (i : ℕ) → First (asked_lines s i) (asked_refusal s i)
 unfolding asked_refusal
@@ -129,7 +138,14 @@ filed_first s = line_first 12 _ _ (is_most s.count 8) no_line
 
 pub add_first : (s : Section) (l : Layer) (room : ℕ) → First (add_lines s l room) (add_refusal s l room)
 unfolding add_refusal
-add_first s l room = then_first (layer_lines s l) _ (layer_refusal s l) _ refl (layer_first s l) (line_first 19 _ _ (is_most (record_size (s.count + 1) s.hf) room) no_line)
+add_first s l room =
+    then_first (layer_lines s l) _ (layer_refusal s l) _ refl (layer_first s l)
+    (line_first 19 _ _ (is_most (record_size (s.count + 1) s.hf) room) no_line)
+
+-- of a record that is handed over as bytes
+pub added_first : (r : List ℕ) (l : Layer) (room : ℕ) → First (lone_lines r ++ add_lines (section_in r) l room) (added_refusal r l room)
+unfolding added_refusal
+added_first r l room = then_first (lone_lines r) _ (record_refusal r) _ refl (lone_first r) (add_first (section_in r) l room)
 
 -- ---- a string of records
 lacks_both : (k : ℕ) (ls ms : List Line) → lacks k ls ≡ true → lacks k ms ≡ true → lacks k (ls ++ ms) ≡ true
@@ -149,7 +165,9 @@ records_lack r (suc n) = lacks_both 0 (records_lines r n) (record_lines r n) (re
 records_first : (r : List ℕ) (n : ℕ) → First (records_lines r n) (first_below n (refusal_at r))
 unfolding records_lines first_below
 records_first r zero = no_line
-records_first r (suc n) = then_first (records_lines r n) (record_lines r n) (first_below n (refusal_at r)) _ (records_lack r n) (records_first r n) (record_first (part_from r (place_at r n)))
+records_first r (suc n) =
+    then_first (records_lines r n) (record_lines r n) (first_below n (refusal_at r)) _ (records_lack r n) (records_first r n)
+    (record_first (part_from r (place_at r n)))
 
 pub write_first : (r : List ℕ) (room : ℕ) → First (write_lines r room) (write_refusal r room)
 unfolding write_refusal

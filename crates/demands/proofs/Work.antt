@@ -12,18 +12,16 @@ use Rattle.arith.specs.Lines.{line, first_of}
 use Rattle.arith.proofs.Answers.{of_answer}
 use Rattle.section.specs.declared.Section.{Section}
 use Rattle.section.specs.Refusal.{section_refusal}
-use Rattle.depths.specs.declared.Listing.{Listing}
-use Rattle.depths.specs.declared.FirstDepth.{FirstDepth}
 use Rattle.depths.specs.Depths.{entry_of, listed}
-use Rattle.depths.specs.Answers.{depths_refusal, list_refusal, whole_work, unlisted, no_depth, no_first, looked_at_all}
+use Rattle.depths.specs.Answers.{ListAnswer, FirstAnswer, depths_refusal, list_refusal, whole_work, unlisted, no_depth, no_first, looked_at_all}
 use Rattle.depths.specs.Answers.{list_answer, first_of_list, first_answer}
 use Rattle.depths.proofs.Answers.{of_first, some_listed}
 use Rattle.depths.proofs.Theorems.{first_balances, one_or_two, looked_inside}
 use Rattle.record.specs.Record.{record_refusal, section_in}
-use Rattle.panel.specs.Face.{list_of, first_depth_of}
 use Rattle.demands.specs.Table.{Line, First, lone_lines, section_lines}
 use Rattle.demands.specs.Demand1.{ByTable, WorkBeside}
 use Rattle.demands.specs.Request6.{FirstTook, ListTook}
+use Rattle.demands.proofs.Shapes.{list_in, first_in}
 use Rattle.demands.proofs.Table.{lacks, never, lone_first, section_first}
 
 -- ---- a first depth: refused before any depth was looked at, by another number than 14
@@ -61,12 +59,11 @@ module _ (s : Section) where
         most = mul-le-mul_right (s.h + s.count) (looked_inside s b);
       }
 
-  pub first_took : {x : FirstDepth} → x ≡ first_answer s → FirstTook s x
+  pub first_took : {x : FirstAnswer} → x ≡ first_answer s → FirstTook s x
   first_took = of_first (FirstTook s) s (unlooked (section_lines s) refl (section_first s)) (λ e. none_found) found
 
 -- 6 first
-pub face_took : (r : List ℕ) {x : FirstDepth} → x ≡ first_depth_of r → FirstTook (section_in r) x
-unfolding first_depth_of
+pub face_took : (r : List ℕ) {x : FirstAnswer} → x ≡ first_in r → FirstTook (section_in r) x
 face_took r is =
     rw is
     (of_answer (FirstTook (section_in r)) (record_refusal r) _ no_first (λ ok. first_took (section_in r) refl)
@@ -81,7 +78,7 @@ module _ (s : Section) where
     most = omega arith;
   }
 
-  pub list_took : (room : ℕ) {x : Listing} → x ≡ list_answer s room → ListTook s x
+  pub list_took : (room : ℕ) {x : ListAnswer} → x ≡ list_answer s room → ListTook s x
   unfolding list_answer list_refusal depths_refusal
   list_took room is =
       rw is
@@ -94,8 +91,7 @@ module _ (s : Section) where
       looked true false = record { whole = λ w. refl; refused = λ z h k. absurd (k refl); most = omega arith }
       looked false u = record { whole = λ w. refl; refused = λ z h. absurd (h refl); most = omega arith }
 
-pub face_list_took : (r : List ℕ) (room : ℕ) {x : Listing} → x ≡ list_of r room → ListTook (section_in r) x
-unfolding list_of
+pub face_list_took : (r : List ℕ) (room : ℕ) {x : ListAnswer} → x ≡ list_in r room → ListTook (section_in r) x
 face_list_took r room is =
     rw is
     (of_answer (ListTook (section_in r)) (record_refusal r) _ unlisted (λ ok. list_took (section_in r) room refl)
@@ -103,12 +99,12 @@ face_list_took r room is =
 
 -- ---- beside a refusal: no first depth is refused by 15
 pub first_beside :
-    (s : Section) (ls : List Line) → lacks 15 ls ≡ true → {x : FirstDepth} → ByTable ls x.refusal → FirstTook s x
+    (s : Section) (ls : List Line) → lacks 15 ls ≡ true → {x : FirstAnswer} → ByTable ls x.refusal → FirstTook s x
     → WorkBeside s x.refusal x.work
 first_beside s ls t {x} by w = record {
   whole = ⊎_elim w.none (λ e. absurd (never 15 ls (omega arith) t ((by x.refusal).0 refl) e));
   none = λ z h k. w.refused z h;
 }
 
-pub list_beside : (s : Section) {x : Listing} → ListTook s x → WorkBeside s x.refusal x.work
+pub list_beside : (s : Section) {x : ListAnswer} → ListTook s x → WorkBeside s x.refusal x.work
 list_beside s w = record { whole = λ e. w.whole (inr e); none = w.refused }

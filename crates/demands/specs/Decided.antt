@@ -21,16 +21,15 @@ OneIn {n} c read =
 -- of each public function
 pub record Decided : Type 0 where
   pub root : One Contracts.root
-  pub section_refusal_call : One Contracts.section_refusal_call
+  pub check : One Contracts.check
   pub with_layer_call : One Contracts.with_layer_call
   pub last_depth_call : One Contracts.last_depth_call
   pub steel : One Contracts.steel
-  pub amount_refused : One Contracts.amount_refused
   pub law_of_call : One Contracts.law_of_call
+  pub lawful_of : One Contracts.lawful_of
   pub concrete_size : One Contracts.concrete_size
   pub bar_size : One Contracts.bar_size
   pub piece_at_call : One Contracts.piece_at_call
-  pub drawn_refused : One Contracts.drawn_refused
   pub draw : One Contracts.draw
   pub strip : One Contracts.strip
   pub bounds : One Contracts.bounds
@@ -38,12 +37,11 @@ pub record Decided : Type 0 where
   pub bar : One Contracts.bar
   pub imbalance : One Contracts.imbalance
   pub moment : One Contracts.moment
-  pub listing_refused : One Contracts.listing_refused
-  pub first_refused : One Contracts.first_refused
   pub depths : One Contracts.depths
   pub depths_row : OneIn Contracts.depths (λ κs x e. e.1.0.now)
   pub first : One Contracts.first
   pub shear : One Contracts.shear
+  pub as_slice : OneIn Contracts.as_slice (λ κs x e. x.now)
   pub byte : One Contracts.byte
   pub le32 : One Contracts.le32
   pub layers_at_call : One Contracts.layers_at_call
@@ -60,6 +58,15 @@ pub record Decided : Type 0 where
   pub add_layer_bytes : OneIn Contracts.add_layer (λ κs x e. e.1.1.1.0.now)
   pub class : One Contracts.class
   pub strength : One Contracts.strength
+  pub book_from : One Contracts.book_from
+  pub record_from : One Contracts.record_from
+  pub written_from : One Contracts.written_from
+  pub class_from : One Contracts.class_from
+  pub strength_from : One Contracts.strength_from
+  pub drawn_from : One Contracts.drawn_from
+  pub amount_from : One Contracts.amount_from
+  pub listing_from : One Contracts.listing_from
+  pub first_from : One Contracts.first_from
   pub fw_book : One Contracts.fw_book
   pub fw_record : One Contracts.fw_record
   pub fw_write_book : One Contracts.fw_write_book

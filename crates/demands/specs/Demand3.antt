@@ -1,7 +1,7 @@
 -- Demand 3: for each section and load, every depth where the forces balance is listed, once, shallowest first; where the exact sums clearly change sign
 -- the pair is listed. It is said of what a caller gets: the row, the count, and the amounts that are answered. The exact sums are written out here, so
 -- that no definition below has to be believed to be one.
-use Rattle.std.specs.Prelude.{ℕ, ◌+◌, ◌*◌, ◌≤◌, ◌<◌, ◌≡◌, ◌⊎◌, ◌↔◌, List, ℤ, pos, neg_ℤ, nat_abs, ◌+ℤ◌, ◌-ℤ◌, ◌*ℤ◌, length, ◌≤ℤ◌, ◌<ℤ◌}
+use Rattle.std.specs.Prelude.{ℕ, ◌+◌, ◌*◌, ◌≤◌, ◌<◌, ◌≡◌, ◌⊎◌, ◌↔◌, List, ℤ, pos, neg_ℤ, nat_abs, ◌+ℤ◌, ◌-ℤ◌, ◌*ℤ◌, length, ◌≤ℤ◌, ◌<ℤ◌, IfOk}
 use Rattle.arith.specs.Sums.{sum_n, sum_z}
 use Rattle.section.specs.declared.Section.{Section}
 use Rattle.section.specs.Accepted.{Accepted}
@@ -9,9 +9,9 @@ use Rattle.law.specs.Law.{law_of}
 use Rattle.law.specs.Stress.{Stress, signed}
 use Rattle.section.specs.Has.{width_at, depth_at, area_at, load_of, last_depth}
 use Rattle.forces.specs.Forces.{strip_stress, bar_stress, imbalance, moment}
-use Rattle.depths.specs.declared.Listing.{Listing}
 use Rattle.depths.specs.Depths.{Entry, Balances, NoDepth}
 use Rattle.depths.specs.Row.{word_at, Shown, how_many}
+use Rattle.depths.specs.Answers.{ListAnswer}
 use Rattle.record.specs.Record.{section_in}
 use Rattle.record.specs.Alone.{StandsAlone}
 use Rattle.demands.specs.Every as Every
@@ -71,13 +71,15 @@ pub record RowShows (s : Section) (count : ℕ) (row : List ℤ) : Type 0 where
   pub own : (e : Entry) → Shown row count e → e.moment ≡ moment s e.depth
   pub near : (e : Entry) → Shown row count e → MomentNear s e.depth e.moment
   -- 3. where the exact imbalances at neighbours are clearly on two sides of zero, the shallower is shown
-  pub pairs : (x : ℕ) → 1 ≤ x → x < last_depth s → (e : Exact s x) (f : Exact s (x + 1)) → ClearlyChanges e f → Shown row count (record { depth = x; kind = 2; moment = moment s x })
+  pub pairs :
+      (x : ℕ) → 1 ≤ x → x < last_depth s → (e : Exact s x) (f : Exact s (x + 1)) → ClearlyChanges e f
+      → Shown row count (record { depth = x; kind = 2; moment = moment s x })
   -- 4. a zero is shown, at the last depth too, which has no next one
   pub zeros : (x : ℕ) → 1 ≤ x → x ≤ last_depth s → imbalance s x ≡ pos 0 → Shown row count (record { depth = x; kind = 1; moment = moment s x })
   pub last : imbalance s (last_depth s) ≡ pos 0 → Shown row count (record { depth = last_depth s; kind = 1; moment = moment s (last_depth s) })
 
 -- what is answered of an accepted section, and left in the row
-pub record Lists (s : Section) (before : List ℤ) (x : Listing) (after : List ℤ) : Type 0 where
+pub record Lists (s : Section) (before : List ℤ) (x : ListAnswer) (after : List ℤ) : Type 0 where
   -- the count is the number of depths that have a kind, whatever room there is; 14 exactly where it is none, 15 exactly where there is no room for it
   pub count : x.count ≡ how_many s
   pub none : (x.refusal ≡ 14) ↔ NoDepth s
@@ -91,9 +93,9 @@ pub record Demand3 : Type 0 where
   pub depths : Every.depths (λ s before x after. Accepted s → Lists s before x after)
   pub fw_depths : Every.fw_depths (λ part before x after. StandsAlone part → Accepted (section_in part) → Lists (section_in part) before x after)
   -- 2. of each amount that is answered
-  pub imbalance_near : Every.imbalance (λ s d x. x.refusal ≡ 0 → ImbalanceNear s d x.amount)
+  pub imbalance_near : Every.imbalance (λ s d x. IfOk x (ImbalanceNear s d))
   pub fw_imbalance_near : Every.fw_imbalance (λ part d x. x.refusal ≡ 0 → ImbalanceNear (section_in part) d x.amount)
-  pub moment_near : Every.moment (λ s d x. x.refusal ≡ 0 → MomentNear s d x.amount)
+  pub moment_near : Every.moment (λ s d x. IfOk x (MomentNear s d))
   pub fw_moment_near : Every.fw_moment (λ part d x. x.refusal ≡ 0 → MomentNear (section_in part) d x.amount)
   pub first_near : Every.first (λ s x. x.refusal ≡ 0 → MomentNear s x.depth x.moment)
   pub fw_first_near : Every.fw_first (λ part x. x.refusal ≡ 0 → MomentNear (section_in part) x.depth x.moment)

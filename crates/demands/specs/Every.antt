@@ -1,28 +1,34 @@
 -- What is said of every call of a public function: of what was handed over, of the answer and, where a row was lent, of the row before and after. It is
 -- said of all that the contract allows, and so of what the function does.
-use Rattle.std.specs.Prelude.{ℕ, Bool, List, ℤ, Float}
+use Rattle.std.specs.Prelude.{ℕ, Bool, List, ℤ, Float, Result}
 use contract.Lifetimes.{Lfts}
 use denote.Triple.Clauses.{AtExit}
 use borrow.Fn.Kinds.{Dens, res_t, ended_of, Out}
+use Rattle.refusal.specs.declared.Refusal.{Refusal}
 use Rattle.section.specs.declared.Section.{Section}
-use Rattle.section.specs.declared.Added.{Added}
 use Rattle.section.specs.declared.Steel.{Steel}
 use Rattle.law.specs.declared.Law.{Law}
-use Rattle.law.specs.declared.LawAnswer.{LawAnswer}
+use Rattle.law.specs.declared.Lawful.{Lawful}
 use Rattle.drawn.specs.declared.Piece.{Piece}
-use Rattle.drawn.specs.declared.Drawn.{Drawn}
+use Rattle.drawn.specs.declared.Point.{Point}
 use Rattle.strips.specs.declared.Axis.{Axis}
 use Rattle.strips.specs.declared.Range.{Range}
-use Rattle.section.specs.declared.Amount.{Amount}
-use Rattle.depths.specs.declared.Listing.{Listing}
-use Rattle.depths.specs.declared.FirstDepth.{FirstDepth}
-use Rattle.record.specs.declared.SectionAnswer.{SectionAnswer}
-use Rattle.record.specs.declared.RecordBytes.{RecordBytes}
-use Rattle.book.specs.declared.BookAnswer.{BookAnswer}
-use Rattle.book.specs.declared.RecordAnswer.{RecordAnswer}
-use Rattle.writer.specs.declared.Written.{Written}
-use Rattle.class.specs.declared.ClassAnswer.{ClassAnswer}
-use Rattle.strength.specs.declared.StrengthAnswer.{StrengthAnswer}
+use Rattle.depths.specs.declared.Listing as Listed
+use Rattle.depths.specs.declared.FirstDepth as Firsts
+use Rattle.depths.specs.declared.Unlisted.{Unlisted}
+use Rattle.depths.specs.Answers.{ListAnswer, told, FirstAnswer, told_first}
+use Rattle.book.specs.declared.Place.{Place}
+use Rattle.class.specs.declared.answer.Class.{Class}
+use Rattle.strength.specs.declared.answer.Strength.{Strength}
+use Rattle.panel.specs.declared.answers.Amount.{Amount}
+use Rattle.panel.specs.declared.answers.Drawn.{Drawn}
+use Rattle.panel.specs.declared.answers.Listing.{Listing}
+use Rattle.panel.specs.declared.answers.FirstDepth.{FirstDepth}
+use Rattle.panel.specs.declared.answers.BookAnswer.{BookAnswer}
+use Rattle.panel.specs.declared.answers.RecordAnswer.{RecordAnswer}
+use Rattle.panel.specs.declared.answers.Written.{Written}
+use Rattle.panel.specs.declared.answers.ClassAnswer.{ClassAnswer}
+use Rattle.panel.specs.declared.answers.StrengthAnswer.{StrengthAnswer}
 use Rattle.demands.specs.PublicContracts.{Contract}
 use Rattle.demands.specs.PublicContracts as Contracts
 
@@ -37,10 +43,10 @@ abbrev pub root : (Bool → ℕ → ℕ → ℕ → ℕ → Type 0) → Type 0
 root says = Tells Contracts.root (λ κs a x e. says a.0 a.1.0 a.1.1.0 a.1.1.1.0 x)
 
 -- ---- section
-abbrev pub section_refusal_call : (Section → ℕ → Type 0) → Type 0
-section_refusal_call says = Tells Contracts.section_refusal_call (λ κs a x e. says a.0 x)
+abbrev pub check : (Section → Result Unit Refusal → Type 0) → Type 0
+check says = Tells Contracts.check (λ κs a x e. says a.0 x)
 
-abbrev pub with_layer_call : (Section → ℕ → ℕ → Added → Type 0) → Type 0
+abbrev pub with_layer_call : (Section → ℕ → ℕ → Result Section Refusal → Type 0) → Type 0
 with_layer_call says = Tells Contracts.with_layer_call (λ κs a x e. says a.0 a.1.0 a.1.1.0 x)
 
 abbrev pub last_depth_call : (Section → ℕ → Type 0) → Type 0
@@ -49,12 +55,12 @@ last_depth_call says = Tells Contracts.last_depth_call (λ κs a x e. says a.0 x
 abbrev pub steel : (Section → Steel → Type 0) → Type 0
 steel says = Tells Contracts.steel (λ κs a x e. says a.0 x)
 
-abbrev pub amount_refused : (ℕ → Amount → Type 0) → Type 0
-amount_refused says = Tells Contracts.amount_refused (λ κs a x e. says a.0 x)
-
 -- ---- law
-abbrev pub law_of_call : (Section → LawAnswer → Type 0) → Type 0
+abbrev pub law_of_call : (Section → Result Law Refusal → Type 0) → Type 0
 law_of_call says = Tells Contracts.law_of_call (λ κs a x e. says a.0 x)
+
+abbrev pub lawful_of : (Section → Result Lawful Refusal → Type 0) → Type 0
+lawful_of says = Tells Contracts.lawful_of (λ κs a x e. says a.0 x)
 
 abbrev pub concrete_size : (Law → Bool → ℕ → ℕ → ℕ → Type 0) → Type 0
 concrete_size says = Tells Contracts.concrete_size (λ κs a x e. says a.0 a.1.0 a.1.1.0 a.1.1.1.0 x)
@@ -66,10 +72,7 @@ bar_size says = Tells Contracts.bar_size (λ κs a x e. says a.0 a.1.0 a.1.1.0 x
 abbrev pub piece_at_call : (Piece → Float → Float → Type 0) → Type 0
 piece_at_call says = Tells Contracts.piece_at_call (λ κs a x e. says a.0 a.1.0 x)
 
-abbrev pub drawn_refused : (ℕ → Drawn → Type 0) → Type 0
-drawn_refused says = Tells Contracts.drawn_refused (λ κs a x e. says a.0 x)
-
-abbrev pub draw : (Section → ℤ → Drawn → Type 0) → Type 0
+abbrev pub draw : (Section → ℤ → Result Point Refusal → Type 0) → Type 0
 draw says = Tells Contracts.draw (λ κs a x e. says a.0 a.1.0 x)
 
 -- ---- strips
@@ -86,30 +89,27 @@ axis_at_call says = Tells Contracts.axis_at_call (λ κs a x e. says a.0 a.1.0 x
 abbrev pub bar : (Law → Axis → ℕ → ℤ → Type 0) → Type 0
 bar says = Tells Contracts.bar (λ κs a x e. says a.0 a.1.0 a.1.1.0 x)
 
-abbrev pub imbalance : (Section → ℕ → Amount → Type 0) → Type 0
+abbrev pub imbalance : (Section → ℕ → Result ℤ Refusal → Type 0) → Type 0
 imbalance says = Tells Contracts.imbalance (λ κs a x e. says a.0 a.1.0 x)
 
-abbrev pub moment : (Section → ℕ → Amount → Type 0) → Type 0
+abbrev pub moment : (Section → ℕ → Result ℤ Refusal → Type 0) → Type 0
 moment says = Tells Contracts.moment (λ κs a x e. says a.0 a.1.0 x)
 
--- ---- depths: a list of words is a row, the one before the answer as it was lent, the one after it as it is left
-abbrev pub listing_refused : (ℕ → Listing → Type 0) → Type 0
-listing_refused says = Tells Contracts.listing_refused (λ κs a x e. says a.0 x)
+-- ---- depths: a list of words is a row, the one before the answer as it was lent, the one after it as it is left. The answer is read as what it tells
+abbrev pub depths : (Section → List ℤ → ListAnswer → List ℤ → Type 0) → Type 0
+depths says = Tells Contracts.depths (λ κs a x e. says a.0 a.1.0.now (told x) e.1.0.now)
 
-abbrev pub first_refused : (ℕ → FirstDepth → Type 0) → Type 0
-first_refused says = Tells Contracts.first_refused (λ κs a x e. says a.0 x)
-
-abbrev pub depths : (Section → List ℤ → Listing → List ℤ → Type 0) → Type 0
-depths says = Tells Contracts.depths (λ κs a x e. says a.0 a.1.0.now x e.1.0.now)
-
-abbrev pub first : (Section → FirstDepth → Type 0) → Type 0
-first says = Tells Contracts.first (λ κs a x e. says a.0 x)
+abbrev pub first : (Section → FirstAnswer → Type 0) → Type 0
+first says = Tells Contracts.first (λ κs a x e. says a.0 (told_first x))
 
 -- ---- shear
-abbrev pub shear : (Section → Amount → Type 0) → Type 0
+abbrev pub shear : (Section → Result ℤ Refusal → Type 0) → Type 0
 shear says = Tells Contracts.shear (λ κs a x e. says a.0 x)
 
--- ---- record: a list of numbers below 256 is what was lent
+-- ---- record: a list of numbers below 256 is what was lent, the bytes of a record, and of `as_slice` what is handed back
+abbrev pub as_slice : (List ℕ → List ℕ → Type 0) → Type 0
+as_slice says = Tells Contracts.as_slice (λ κs a x e. says a.0.now x.now)
+
 abbrev pub byte : (List ℕ → ℕ → ℕ → Type 0) → Type 0
 byte says = Tells Contracts.byte (λ κs a x e. says a.0.now a.1.0 x)
 
@@ -122,41 +122,76 @@ layers_at_call says = Tells Contracts.layers_at_call (λ κs a x e. says a.0.now
 abbrev pub size_at_call : (List ℕ → ℕ → ℕ → Type 0) → Type 0
 size_at_call says = Tells Contracts.size_at_call (λ κs a x e. says a.0.now a.1.0 x)
 
-abbrev pub section_of : (List ℕ → SectionAnswer → Type 0) → Type 0
+abbrev pub section_of : (List ℕ → Result Section Refusal → Type 0) → Type 0
 section_of says = Tells Contracts.section_of (λ κs a x e. says a.0.now x)
 
-abbrev pub filed : (Section → RecordBytes → Type 0) → Type 0
+abbrev pub filed : (Section → Result (List ℕ) Refusal → Type 0) → Type 0
 filed says = Tells Contracts.filed (λ κs a x e. says a.0 x)
 
-abbrev pub record_of_call : (Section → RecordBytes → Type 0) → Type 0
+abbrev pub record_of_call : (Section → Result (List ℕ) Refusal → Type 0) → Type 0
 record_of_call says = Tells Contracts.record_of_call (λ κs a x e. says a.0 x)
 
 -- ---- book: of `record` a list is also what is handed back
-abbrev pub book : (List ℕ → BookAnswer → Type 0) → Type 0
+abbrev pub book : (List ℕ → Result ℕ Refusal → Type 0) → Type 0
 book says = Tells Contracts.book (λ κs a x e. says a.0.now x)
 
-abbrev pub record_place : (List ℕ → ℕ → RecordAnswer → Type 0) → Type 0
+abbrev pub record_place : (List ℕ → ℕ → Result Place Refusal → Type 0) → Type 0
 record_place says = Tells Contracts.record_place (λ κs a x e. says a.0.now a.1.0 x)
 
 abbrev pub record_part : (List ℕ → ℕ → List ℕ → Type 0) → Type 0
 record_part says = Tells Contracts.record_part (λ κs a x e. says a.0.now a.1.0 x.now)
 
 -- ---- writer: the list before the answer is what was lent to be written as it was, the one after it as it is left
-abbrev pub write_book : (List ℕ → List ℕ → Written → List ℕ → Type 0) → Type 0
+abbrev pub write_book : (List ℕ → List ℕ → Result ℕ Refusal → List ℕ → Type 0) → Type 0
 write_book says = Tells Contracts.write_book (λ κs a x e. says a.0.now a.1.0.now x e.1.0.now)
 
-abbrev pub add_layer : (List ℕ → ℕ → ℕ → List ℕ → Written → List ℕ → Type 0) → Type 0
+abbrev pub add_layer : (List ℕ → ℕ → ℕ → List ℕ → Result ℕ Refusal → List ℕ → Type 0) → Type 0
 add_layer says = Tells Contracts.add_layer (λ κs a x e. says a.0.now a.1.0 a.1.1.0 a.1.1.1.0.now x e.1.1.1.0.now)
 
 -- ---- class
-abbrev pub class : (ℕ → ℕ → ClassAnswer → Type 0) → Type 0
+abbrev pub class : (ℕ → ℕ → Result Class Refusal → Type 0) → Type 0
 class says = Tells Contracts.class (λ κs a x e. says a.0 a.1.0 x)
 
 -- ---- strength: a list of numbers below 2 ^ 32 is the results that were lent
-abbrev pub strength : (List ℕ → StrengthAnswer → Type 0) → Type 0
+abbrev pub strength : (List ℕ → Result Strength Refusal → Type 0) → Type 0
 strength says = Tells Contracts.strength (λ κs a x e. says a.0.now x)
 
--- ---- the C face
+-- ---- the C face: what C gets of an answer
+abbrev pub book_from : (Result ℕ Refusal → BookAnswer → Type 0) → Type 0
+book_from says = Tells Contracts.book_from (λ κs a x e. says a.0 x)
+
+abbrev pub record_from : (Result Place Refusal → RecordAnswer → Type 0) → Type 0
+record_from says = Tells Contracts.record_from (λ κs a x e. says a.0 x)
+
+abbrev pub written_from : (Result ℕ Refusal → Written → Type 0) → Type 0
+written_from says = Tells Contracts.written_from (λ κs a x e. says a.0 x)
+
+abbrev pub class_from : (Result Class Refusal → ClassAnswer → Type 0) → Type 0
+class_from says = Tells Contracts.class_from (λ κs a x e. says a.0 x)
+
+abbrev pub strength_from : (Result Strength Refusal → StrengthAnswer → Type 0) → Type 0
+strength_from says = Tells Contracts.strength_from (λ κs a x e. says a.0 x)
+
+abbrev pub drawn_from : (Result Point Refusal → Drawn → Type 0) → Type 0
+drawn_from says = Tells Contracts.drawn_from (λ κs a x e. says a.0 x)
+
+abbrev pub amount_from : (Result ℤ Refusal → Amount → Type 0) → Type 0
+amount_from says = Tells Contracts.amount_from (λ κs a x e. says a.0 x)
+
+-- that of a list and of a first depth is read by its fields, as `depths` tells of its own
+abbrev pub as_list : Listing → ListAnswer
+as_list x = record { refusal = x.refusal; count = x.count; work = x.work }
+
+abbrev pub as_first : FirstDepth → FirstAnswer
+as_first x = record { refusal = x.refusal; depth = x.depth; kind = x.kind; work = x.work; moment = x.moment }
+
+abbrev pub listing_from : (Result Listed.Listing Unlisted → ListAnswer → Type 0) → Type 0
+listing_from says = Tells Contracts.listing_from (λ κs a x e. says a.0 (as_list x))
+
+abbrev pub first_from : (Result Firsts.FirstDepth Unlisted → FirstAnswer → Type 0) → Type 0
+first_from says = Tells Contracts.first_from (λ κs a x e. says a.0 (as_first x))
+
+-- and its functions
 abbrev pub fw_book : (List ℕ → BookAnswer → Type 0) → Type 0
 fw_book says = Tells Contracts.fw_book (λ κs a x e. says a.0.now x)
 
@@ -184,11 +219,11 @@ fw_imbalance says = Tells Contracts.fw_imbalance (λ κs a x e. says a.0.now a.1
 abbrev pub fw_moment : (List ℕ → ℕ → Amount → Type 0) → Type 0
 fw_moment says = Tells Contracts.fw_moment (λ κs a x e. says a.0.now a.1.0 x)
 
-abbrev pub fw_depths : (List ℕ → List ℤ → Listing → List ℤ → Type 0) → Type 0
-fw_depths says = Tells Contracts.fw_depths (λ κs a x e. says a.0.now a.1.0.now x e.1.0.now)
+abbrev pub fw_depths : (List ℕ → List ℤ → ListAnswer → List ℤ → Type 0) → Type 0
+fw_depths says = Tells Contracts.fw_depths (λ κs a x e. says a.0.now a.1.0.now (as_list x) e.1.0.now)
 
-abbrev pub fw_first : (List ℕ → FirstDepth → Type 0) → Type 0
-fw_first says = Tells Contracts.fw_first (λ κs a x e. says a.0.now x)
+abbrev pub fw_first : (List ℕ → FirstAnswer → Type 0) → Type 0
+fw_first says = Tells Contracts.fw_first (λ κs a x e. says a.0.now (as_first x))
 
 abbrev pub fw_shear : (List ℕ → Amount → Type 0) → Type 0
 fw_shear says = Tells Contracts.fw_shear (λ κs a x e. says a.0.now x)

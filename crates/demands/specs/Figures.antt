@@ -1,23 +1,29 @@
 -- Document 01, 'Figures to meet': the figures marked P, as one table.
-use Rattle.std.specs.Prelude.{◌*◌, ◌≡◌}
+use Rattle.std.specs.Prelude.{ℕ, ◌*◌, ◌≡◌}
 use Rattle.law.specs.declared.Law.{Law}
 use Rattle.law.specs.Law.{law_by}
 use Rattle.law.specs.Stress.{Is, compressed, stretched}
 use Rattle.shear.specs.Shear.{k_of, c_of}
-use Rattle.class.specs.Class.{class_answer, classed, refused, letter_a, letter_c, letter_d}
+use Rattle.class.specs.declared.answer.Class.{Class}
+use Rattle.class.specs.declared.answer.Letter.TheVariants.{A, C, D}
+use Rattle.class.specs.Class.{class_refusal, class_of}
 
 -- fck 30, d 250, feq2 3000, feq3 2500; the bars, of fyk 500 and at that depth, are not in its figures
 abbrev pub law250 : Law
 law250 = law_by 30 250 250 500 3000 2500
 
+-- fR1 and fR3 give a class
+abbrev pub Classed : (fr1 fr3 : ℕ) → Class → Type 0
+Classed fr1 fr3 c = (class_refusal fr1 fr3 ≡ 0) × (class_of fr1 fr3 ≡ c)
+
 abbrev pub Figures : Type 0
 Figures =
-    (class_answer 7100 8700 ≡ classed 7000 letter_d)
-    × (class_answer 1220 1060 ≡ classed 1000 letter_c)
-    × (class_answer 3999 3500 ≡ classed 3500 letter_c)
-    × (class_answer 4000 2000 ≡ classed 4000 letter_a)
-    × (class_answer 4000 1999 ≡ refused 17)
-    × (class_answer 999 5000 ≡ refused 17)
+    Classed 7100 8700 (record { step = 7000; letter = D })
+    × Classed 1220 1060 (record { step = 1000; letter = C })
+    × Classed 3999 3500 (record { step = 3500; letter = C })
+    × Classed 4000 2000 (record { step = 4000; letter = A })
+    × (class_refusal 4000 1999 ≡ 17)
+    × (class_refusal 999 5000 ≡ 17)
     × (law250.s1 ≡ 4536)
     × (law250.e1 ≡ 141)
     × (law250.s2 ≡ 1350)

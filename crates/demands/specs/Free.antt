@@ -12,16 +12,15 @@ AsksNothing {n} c = (κs : Lfts n) (a : Dens κs c.takes) → c.asked κs a
 -- of each public function
 pub record Free : Type 0 where
   pub root : AsksNothing Contracts.root
-  pub section_refusal_call : AsksNothing Contracts.section_refusal_call
+  pub check : AsksNothing Contracts.check
   pub with_layer_call : AsksNothing Contracts.with_layer_call
   pub last_depth_call : AsksNothing Contracts.last_depth_call
   pub steel : AsksNothing Contracts.steel
-  pub amount_refused : AsksNothing Contracts.amount_refused
   pub law_of_call : AsksNothing Contracts.law_of_call
+  pub lawful_of : AsksNothing Contracts.lawful_of
   pub concrete_size : AsksNothing Contracts.concrete_size
   pub bar_size : AsksNothing Contracts.bar_size
   pub piece_at_call : AsksNothing Contracts.piece_at_call
-  pub drawn_refused : AsksNothing Contracts.drawn_refused
   pub draw : AsksNothing Contracts.draw
   pub strip : AsksNothing Contracts.strip
   pub bounds : AsksNothing Contracts.bounds
@@ -29,11 +28,10 @@ pub record Free : Type 0 where
   pub bar : AsksNothing Contracts.bar
   pub imbalance : AsksNothing Contracts.imbalance
   pub moment : AsksNothing Contracts.moment
-  pub listing_refused : AsksNothing Contracts.listing_refused
-  pub first_refused : AsksNothing Contracts.first_refused
   pub depths : AsksNothing Contracts.depths
   pub first : AsksNothing Contracts.first
   pub shear : AsksNothing Contracts.shear
+  pub as_slice : AsksNothing Contracts.as_slice
   pub byte : AsksNothing Contracts.byte
   pub le32 : AsksNothing Contracts.le32
   pub layers_at_call : AsksNothing Contracts.layers_at_call
@@ -48,6 +46,15 @@ pub record Free : Type 0 where
   pub add_layer : AsksNothing Contracts.add_layer
   pub class : AsksNothing Contracts.class
   pub strength : AsksNothing Contracts.strength
+  pub book_from : AsksNothing Contracts.book_from
+  pub record_from : AsksNothing Contracts.record_from
+  pub written_from : AsksNothing Contracts.written_from
+  pub class_from : AsksNothing Contracts.class_from
+  pub strength_from : AsksNothing Contracts.strength_from
+  pub drawn_from : AsksNothing Contracts.drawn_from
+  pub amount_from : AsksNothing Contracts.amount_from
+  pub listing_from : AsksNothing Contracts.listing_from
+  pub first_from : AsksNothing Contracts.first_from
   pub fw_book : AsksNothing Contracts.fw_book
   pub fw_record : AsksNothing Contracts.fw_record
   pub fw_write_book : AsksNothing Contracts.fw_write_book

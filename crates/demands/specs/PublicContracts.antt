@@ -4,26 +4,24 @@ use Rattle.std.specs.Prelude.{ℕ, List}
 use borrow.Fn.Kinds.{ParamKind, ResultKind, In, Out}
 use Rattle.roots.proofs.root.Kinds as Root
 use Rattle.roots.proofs.root.Reads as RootReads
-use Rattle.section.proofs.Section.refusal.Kinds as SectionRefusal
-use Rattle.section.proofs.Section.refusal.Reads as SectionRefusalReads
+use Rattle.section.proofs.Section.check.Kinds as SectionCheck
+use Rattle.section.proofs.Section.check.Reads as SectionCheckReads
 use Rattle.section.proofs.Section.with_layer.Kinds as WithLayer
 use Rattle.section.proofs.Section.with_layer.Reads as WithLayerReads
 use Rattle.section.proofs.Section.last_depth.Kinds as LastDepth
 use Rattle.section.proofs.Section.last_depth.Reads as LastDepthReads
 use Rattle.section.proofs.Section.steel.Kinds as Steel
 use Rattle.section.proofs.Section.steel.Reads as SteelReads
-use Rattle.section.proofs.Amount.refused.Kinds as AmountRefused
-use Rattle.section.proofs.Amount.refused.Reads as AmountRefusedReads
 use Rattle.law.proofs.Law.of.Kinds as LawOf
 use Rattle.law.proofs.Law.of.Reads as LawOfReads
+use Rattle.law.proofs.Lawful.of.Kinds as LawfulOf
+use Rattle.law.proofs.Lawful.of.Reads as LawfulOfReads
 use Rattle.law.proofs.Law.concrete_size.Kinds as ConcreteSize
 use Rattle.law.proofs.Law.concrete_size.Reads as ConcreteSizeReads
 use Rattle.law.proofs.Law.bar_size.Kinds as BarSize
 use Rattle.law.proofs.Law.bar_size.Reads as BarSizeReads
 use Rattle.drawn.proofs.Piece.at.Kinds as PieceAt
 use Rattle.drawn.proofs.Piece.at.Reads as PieceAtReads
-use Rattle.drawn.proofs.Drawn.refused.Kinds as DrawnRefused
-use Rattle.drawn.proofs.Drawn.refused.Reads as DrawnRefusedReads
 use Rattle.drawn.proofs.draw.Kinds as Draw
 use Rattle.drawn.proofs.draw.Reads as DrawReads
 use Rattle.strips.proofs.strip.Kinds as Strip
@@ -38,16 +36,14 @@ use Rattle.forces.proofs.imbalance.Kinds as Imbalance
 use Rattle.forces.proofs.imbalance.Reads as ImbalanceReads
 use Rattle.forces.proofs.moment.Kinds as Moment
 use Rattle.forces.proofs.moment.Reads as MomentReads
-use Rattle.depths.proofs.Listing.refused.Kinds as ListingRefused
-use Rattle.depths.proofs.Listing.refused.Reads as ListingRefusedReads
-use Rattle.depths.proofs.FirstDepth.refused.Kinds as FirstRefused
-use Rattle.depths.proofs.FirstDepth.refused.Reads as FirstRefusedReads
 use Rattle.depths.proofs.depths.Kinds as Depths
 use Rattle.depths.proofs.depths.Reads as DepthsReads
 use Rattle.depths.proofs.first.Kinds as First
 use Rattle.depths.proofs.first.Reads as FirstReads
 use Rattle.shear.proofs.shear.Kinds as Shear
 use Rattle.shear.proofs.shear.Reads as ShearReads
+use Rattle.record.proofs.RecordBytes.as_slice.Kinds as AsSlice
+use Rattle.record.proofs.RecordBytes.as_slice.Reads as AsSliceReads
 use Rattle.record.proofs.byte.Kinds as Byte
 use Rattle.record.proofs.byte.Reads as ByteReads
 use Rattle.record.proofs.le32.Kinds as Le32
@@ -76,6 +72,24 @@ use Rattle.class.proofs.class.Kinds as Class
 use Rattle.class.proofs.class.Reads as ClassReads
 use Rattle.strength.proofs.strength.Kinds as Strength
 use Rattle.strength.proofs.strength.Reads as StrengthReads
+use Rattle.panel.proofs.answers.BookAnswerFromResultU32Refusal.from.Kinds as BookFrom
+use Rattle.panel.proofs.answers.BookAnswerFromResultU32Refusal.from.Reads as BookFromReads
+use Rattle.panel.proofs.answers.RecordAnswerFromResultPlaceRefusal.from.Kinds as RecordFrom
+use Rattle.panel.proofs.answers.RecordAnswerFromResultPlaceRefusal.from.Reads as RecordFromReads
+use Rattle.panel.proofs.answers.WrittenFromResultU32Refusal.from.Kinds as WrittenFrom
+use Rattle.panel.proofs.answers.WrittenFromResultU32Refusal.from.Reads as WrittenFromReads
+use Rattle.panel.proofs.answers.ClassAnswerFromResultClassRefusal.from.Kinds as ClassFrom
+use Rattle.panel.proofs.answers.ClassAnswerFromResultClassRefusal.from.Reads as ClassFromReads
+use Rattle.panel.proofs.answers.StrengthAnswerFromResultStrengthRefusal.from.Kinds as StrengthFrom
+use Rattle.panel.proofs.answers.StrengthAnswerFromResultStrengthRefusal.from.Reads as StrengthFromReads
+use Rattle.panel.proofs.answers.DrawnFromResultPointRefusal.from.Kinds as DrawnFrom
+use Rattle.panel.proofs.answers.DrawnFromResultPointRefusal.from.Reads as DrawnFromReads
+use Rattle.panel.proofs.answers.AmountFromResultI64Refusal.from.Kinds as AmountFrom
+use Rattle.panel.proofs.answers.AmountFromResultI64Refusal.from.Reads as AmountFromReads
+use Rattle.panel.proofs.answers.ListingFromResultDepthsListingUnlisted.from.Kinds as ListingFrom
+use Rattle.panel.proofs.answers.ListingFromResultDepthsListingUnlisted.from.Reads as ListingFromReads
+use Rattle.panel.proofs.answers.FirstDepthFromResultDepthsFirstDepthUnlisted.from.Kinds as FirstFrom
+use Rattle.panel.proofs.answers.FirstDepthFromResultDepthsFirstDepthUnlisted.from.Reads as FirstFromReads
 use Rattle.panel.proofs.fw_book.Kinds as FwBook
 use Rattle.panel.proofs.fw_book.Reads as FwBookReads
 use Rattle.panel.proofs.fw_record.Kinds as FwRecord
@@ -111,8 +125,8 @@ pub record Contract (n : ℕ) : Type 3 where
 abbrev pub root : Contract 0
 root = record { takes = Root.ps; gives = Root.r; asked = RootReads.Asked; told = RootReads.Learnt }
 
-abbrev pub section_refusal_call : Contract 0
-section_refusal_call = record { takes = SectionRefusal.ps; gives = SectionRefusal.r; asked = SectionRefusalReads.Asked; told = SectionRefusalReads.Learnt }
+abbrev pub check : Contract 0
+check = record { takes = SectionCheck.ps; gives = SectionCheck.r; asked = SectionCheckReads.Asked; told = SectionCheckReads.Learnt }
 
 abbrev pub with_layer_call : Contract 0
 with_layer_call = record { takes = WithLayer.ps; gives = WithLayer.r; asked = WithLayerReads.Asked; told = WithLayerReads.Learnt }
@@ -123,11 +137,11 @@ last_depth_call = record { takes = LastDepth.ps; gives = LastDepth.r; asked = La
 abbrev pub steel : Contract 0
 steel = record { takes = Steel.ps; gives = Steel.r; asked = SteelReads.Asked; told = SteelReads.Learnt }
 
-abbrev pub amount_refused : Contract 0
-amount_refused = record { takes = AmountRefused.ps; gives = AmountRefused.r; asked = AmountRefusedReads.Asked; told = AmountRefusedReads.Learnt }
-
 abbrev pub law_of_call : Contract 0
 law_of_call = record { takes = LawOf.ps; gives = LawOf.r; asked = LawOfReads.Asked; told = LawOfReads.Learnt }
+
+abbrev pub lawful_of : Contract 0
+lawful_of = record { takes = LawfulOf.ps; gives = LawfulOf.r; asked = LawfulOfReads.Asked; told = LawfulOfReads.Learnt }
 
 abbrev pub concrete_size : Contract 0
 concrete_size = record { takes = ConcreteSize.ps; gives = ConcreteSize.r; asked = ConcreteSizeReads.Asked; told = ConcreteSizeReads.Learnt }
@@ -137,9 +151,6 @@ bar_size = record { takes = BarSize.ps; gives = BarSize.r; asked = BarSizeReads.
 
 abbrev pub piece_at_call : Contract 0
 piece_at_call = record { takes = PieceAt.ps; gives = PieceAt.r; asked = PieceAtReads.Asked; told = PieceAtReads.Learnt }
-
-abbrev pub drawn_refused : Contract 0
-drawn_refused = record { takes = DrawnRefused.ps; gives = DrawnRefused.r; asked = DrawnRefusedReads.Asked; told = DrawnRefusedReads.Learnt }
 
 abbrev pub draw : Contract 0
 draw = record { takes = Draw.ps; gives = Draw.r; asked = DrawReads.Asked; told = DrawReads.Learnt }
@@ -162,12 +173,6 @@ imbalance = record { takes = Imbalance.ps; gives = Imbalance.r; asked = Imbalanc
 abbrev pub moment : Contract 0
 moment = record { takes = Moment.ps; gives = Moment.r; asked = MomentReads.Asked; told = MomentReads.Learnt }
 
-abbrev pub listing_refused : Contract 0
-listing_refused = record { takes = ListingRefused.ps; gives = ListingRefused.r; asked = ListingRefusedReads.Asked; told = ListingRefusedReads.Learnt }
-
-abbrev pub first_refused : Contract 0
-first_refused = record { takes = FirstRefused.ps; gives = FirstRefused.r; asked = FirstRefusedReads.Asked; told = FirstRefusedReads.Learnt }
-
 abbrev pub depths : Contract 1
 depths = record { takes = Depths.ps; gives = Depths.r; asked = DepthsReads.Asked; told = DepthsReads.Learnt }
 
@@ -176,6 +181,9 @@ first = record { takes = First.ps; gives = First.r; asked = FirstReads.Asked; to
 
 abbrev pub shear : Contract 0
 shear = record { takes = Shear.ps; gives = Shear.r; asked = ShearReads.Asked; told = ShearReads.Learnt }
+
+abbrev pub as_slice : Contract 1
+as_slice = record { takes = AsSlice.ps; gives = AsSlice.r; asked = AsSliceReads.Asked; told = AsSliceReads.Learnt }
 
 abbrev pub byte : Contract 1
 byte = record { takes = Byte.ps; gives = Byte.r; asked = ByteReads.Asked; told = ByteReads.Learnt }
@@ -218,6 +226,33 @@ class = record { takes = Class.ps; gives = Class.r; asked = ClassReads.Asked; to
 
 abbrev pub strength : Contract 1
 strength = record { takes = Strength.ps; gives = Strength.r; asked = StrengthReads.Asked; told = StrengthReads.Learnt }
+
+abbrev pub book_from : Contract 0
+book_from = record { takes = BookFrom.ps; gives = BookFrom.r; asked = BookFromReads.Asked; told = BookFromReads.Learnt }
+
+abbrev pub record_from : Contract 0
+record_from = record { takes = RecordFrom.ps; gives = RecordFrom.r; asked = RecordFromReads.Asked; told = RecordFromReads.Learnt }
+
+abbrev pub written_from : Contract 0
+written_from = record { takes = WrittenFrom.ps; gives = WrittenFrom.r; asked = WrittenFromReads.Asked; told = WrittenFromReads.Learnt }
+
+abbrev pub class_from : Contract 0
+class_from = record { takes = ClassFrom.ps; gives = ClassFrom.r; asked = ClassFromReads.Asked; told = ClassFromReads.Learnt }
+
+abbrev pub strength_from : Contract 0
+strength_from = record { takes = StrengthFrom.ps; gives = StrengthFrom.r; asked = StrengthFromReads.Asked; told = StrengthFromReads.Learnt }
+
+abbrev pub drawn_from : Contract 0
+drawn_from = record { takes = DrawnFrom.ps; gives = DrawnFrom.r; asked = DrawnFromReads.Asked; told = DrawnFromReads.Learnt }
+
+abbrev pub amount_from : Contract 0
+amount_from = record { takes = AmountFrom.ps; gives = AmountFrom.r; asked = AmountFromReads.Asked; told = AmountFromReads.Learnt }
+
+abbrev pub listing_from : Contract 0
+listing_from = record { takes = ListingFrom.ps; gives = ListingFrom.r; asked = ListingFromReads.Asked; told = ListingFromReads.Learnt }
+
+abbrev pub first_from : Contract 0
+first_from = record { takes = FirstFrom.ps; gives = FirstFrom.r; asked = FirstFromReads.Asked; told = FirstFromReads.Learnt }
 
 abbrev pub fw_book : Contract 1
 fw_book = record { takes = FwBook.ps; gives = FwBook.r; asked = FwBookReads.Asked; told = FwBookReads.Learnt }

@@ -1,19 +1,22 @@
 -- Document 02 [4], ribbed floors: what it promises to keep. It is said of two calls, of a section and of the same section as a rectangle, and of what
 -- document 01 answers, written out here with the width b at every strip.
-use Rattle.std.specs.Prelude.{ℕ, ◌+◌, ◌*◌, ◌-◌, ◌/◌, ◌<◌, min, max, ◌≡◌, List, [], ◌∷◌, ℤ, pos, ◌+ℤ◌, ◌-ℤ◌, ◌*ℤ◌, length, replicate}
+use Rattle.std.specs.Prelude.{ℕ, ◌+◌, ◌*◌, ◌-◌, ◌/◌, ◌<◌, min, max, ◌≡◌, List, [], ◌∷◌, ℤ, pos, ◌+ℤ◌, ◌-ℤ◌, ◌*ℤ◌, length, replicate, Result, IfOk}
+use Rattle.std.specs.Result.{result_map_both}
 use Rattle.arith.specs.Sums.{sum_z}
 use Rattle.arith.specs.Floor.{floor_div}
+use Rattle.refusal.specs.declared.Refusal.{Refusal}
+use Rattle.refusal.specs.Refusal.{number_of}
 use Rattle.section.specs.declared.Section.{Section}
 use Rattle.section.specs.Section.{no_layer}
 use Rattle.section.specs.Accepted.{ConcreteIn, SizesIn, SteelIn, FibresIn, LoadIn, BarsIn, StirrupsIn}
 use Rattle.section.specs.Has.{concrete_area, steel_area, load_of, last_depth}
+use Rattle.law.specs.declared.Law.{Law}
+use Rattle.law.specs.declared.Lawful.{Lawful}
 use Rattle.law.specs.Law.{law_of}
 use Rattle.law.specs.Stress.{rounded}
 use Rattle.forces.specs.Forces.{strip_stress, bar_force, bar_moment}
-use Rattle.depths.specs.declared.Listing.{Listing}
-use Rattle.depths.specs.declared.FirstDepth.{FirstDepth}
 use Rattle.depths.specs.Depths.{Entry, entry_of, kind_of, list_to, written}
-use Rattle.depths.specs.Answers.{first_of_list}
+use Rattle.depths.specs.Answers.{ListAnswer, FirstAnswer, first_of_list}
 use Rattle.shear.specs.Shear.{k_of, c_of, at_least_zero, kf_of, stirrups, struts}
 use Rattle.record.specs.Record.{section_in}
 use Rattle.record.specs.Filed.{filed}
@@ -53,6 +56,13 @@ Alike every is = every (λ s x. is s → every (λ t y. t ≡ rectangle s → x 
 
 abbrev pub AlikeAt : {D X : Type 0} → ((Section → D → X → Type 0) → Type 0) → (Section → Type 0) → Type 0
 AlikeAt every is = every (λ s d x. is s → every (λ t e y. t ≡ rectangle s → e ≡ d → x ≡ y))
+
+-- of a law that has its section with it: refused alike, and the law is
+abbrev pub its_law : Result Lawful Refusal → Result Law Refusal
+its_law x = result_map_both (λ l. l.law) (λ e. e) x
+
+abbrev pub AlikeLaw : (Section → Type 0) → Type 0
+AlikeLaw is = Every.lawful_of (λ s x. is s → Every.lawful_of (λ t y. t ≡ rectangle s → its_law x ≡ its_law y))
 
 -- of the list, with the row that it leaves; and by the C face, of two records that are read as such sections
 abbrev pub AlikeList : (Section → Type 0) → Type 0
@@ -100,10 +110,10 @@ plain_lines s =
     ∷ (13 unless StirrupsIn s)
     ∷ []
 
-abbrev pub ListBefore : Section → List ℤ → Listing → List ℤ → Type 0
+abbrev pub ListBefore : Section → List ℤ → ListAnswer → List ℤ → Type 0
 ListBefore s before x after = (x.count ≡ length (plain_list s)) × (after ≡ written (plain_list s) before)
 
-abbrev pub FirstBefore : Section → FirstDepth → Type 0
+abbrev pub FirstBefore : Section → FirstAnswer → Type 0
 FirstBefore s x = x ≡ first_of_list s (entry_of (plain_list s) 0)
 
 -- ---- the request's rib: its record, area 128000, and kf 1266 at its d of 360
@@ -137,14 +147,15 @@ RibFigures = (filed rib ≡ rib_record) × (concrete_area rib ≡ 128000) × ((l
 
 pub record Request4 : Type 0 where
   -- hf 0: bf is ignored by every call that takes a section. What is filed has none; to a section with a layer added it is still handed on
-  pub section_refusal_call : Alike Every.section_refusal_call Flat
+  pub check : Alike Every.check Flat
   pub with_layer_call :
       Every.with_layer_call
       (λ s depth area x. Flat s →
-      Every.with_layer_call (λ t d a y. t ≡ rectangle s → d ≡ depth → a ≡ area → (x.refusal ≡ y.refusal) × (rectangle x.section ≡ y.section)))
+      Every.with_layer_call (λ t d a y. t ≡ rectangle s → d ≡ depth → a ≡ area → result_map_both rectangle (λ e. e) x ≡ y))
   pub last_depth_call : Alike Every.last_depth_call Flat
   pub steel : Alike Every.steel Flat
   pub law_of_call : Alike Every.law_of_call Flat
+  pub lawful_of : AlikeLaw Flat
   pub draw : AlikeAt Every.draw Flat
   pub imbalance : AlikeAt Every.imbalance Flat
   pub moment : AlikeAt Every.moment Flat
@@ -154,20 +165,21 @@ pub record Request4 : Type 0 where
   pub filed : Alike Every.filed Flat
   pub record_of_call : Alike Every.record_of_call Flat
   -- and the answers are document 01's: the refusal, and where nothing is refused imbalance, moment, list, its first and shear, by the C face too
-  pub refusal_before : Every.section_refusal_call (λ s x. Flat s → ByTable (plain_lines s) x)
-  pub imbalance_before : Every.imbalance (λ s d x. Flat s → x.refusal ≡ 0 → x.amount ≡ plain_imbalance s d)
-  pub moment_before : Every.moment (λ s d x. Flat s → x.refusal ≡ 0 → x.amount ≡ plain_moment s d)
+  pub refusal_before : Every.check (λ s x. Flat s → ByTable (plain_lines s) (number_of x))
+  pub imbalance_before : Every.imbalance (λ s d x. Flat s → IfOk x (λ n. n ≡ plain_imbalance s d))
+  pub moment_before : Every.moment (λ s d x. Flat s → IfOk x (λ n. n ≡ plain_moment s d))
   pub depths_before : Every.depths (λ s before x after. Flat s → x.refusal ≡ 0 → ListBefore s before x after)
   pub first_before : Every.first (λ s x. Flat s → x.refusal ≡ 0 → FirstBefore s x)
-  pub shear_before : Every.shear (λ s x. Flat s → x.refusal ≡ 0 → x.amount ≡ pos (plain_shear s))
+  pub shear_before : Every.shear (λ s x. Flat s → IfOk x (λ n. n ≡ pos (plain_shear s)))
   pub fw_imbalance_before : Every.fw_imbalance (λ r d x. Flat (section_in r) → x.refusal ≡ 0 → x.amount ≡ plain_imbalance (section_in r) d)
   pub fw_moment_before : Every.fw_moment (λ r d x. Flat (section_in r) → x.refusal ≡ 0 → x.amount ≡ plain_moment (section_in r) d)
   pub fw_depths_before : Every.fw_depths (λ r before x after. Flat (section_in r) → x.refusal ≡ 0 → ListBefore (section_in r) before x after)
   pub fw_first_before : Every.fw_first (λ r x. Flat (section_in r) → x.refusal ≡ 0 → FirstBefore (section_in r) x)
   pub fw_shear_before : Every.fw_shear (λ r x. Flat (section_in r) → x.refusal ≡ 0 → x.amount ≡ pos (plain_shear (section_in r)))
   -- bf = b: a rib answers as the rectangle does
-  pub level_refusal : Alike Every.section_refusal_call Level
+  pub level_check : Alike Every.check Level
   pub level_law_of : Alike Every.law_of_call Level
+  pub level_lawful_of : AlikeLaw Level
   pub level_draw : AlikeAt Every.draw Level
   pub level_imbalance : AlikeAt Every.imbalance Level
   pub level_moment : AlikeAt Every.moment Level

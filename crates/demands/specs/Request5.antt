@@ -3,15 +3,14 @@
 use Rattle.std.specs.Prelude.{ℕ, ◌≤◌, ◌<◌, ◌≡◌, ◌↔◌, List, ℤ, pos, neg_ℤ, replicate}
 use Rattle.section.specs.declared.Section.{Section}
 use Rattle.section.specs.Section.{no_layer}
-use Rattle.depths.specs.declared.Listing.{Listing}
-use Rattle.depths.specs.declared.FirstDepth.{FirstDepth}
 use Rattle.depths.specs.Depths.{kind_at, Balances}
 use Rattle.depths.specs.Row.{word_at}
+use Rattle.depths.specs.Answers.{ListAnswer, FirstAnswer}
 use Rattle.record.specs.Record.{section_in}
 use Rattle.demands.specs.Every as Every
 
 -- x is the first depth's answer, y the list's, with the row that it leaves
-pub record Heads (x : FirstDepth) (y : Listing) (after : List ℤ) : Type 0 where
+pub record Heads (x : FirstAnswer) (y : ListAnswer) (after : List ℤ) : Type 0 where
   -- it is refused as the list is; where only the row is too short for the list, it is not
   pub number : (y.refusal ≡ 15 → ⊥) → x.refusal ≡ y.refusal
   pub short : y.refusal ≡ 15 → x.refusal ≡ 0
@@ -22,7 +21,7 @@ pub record Heads (x : FirstDepth) (y : Listing) (after : List ℤ) : Type 0 wher
   pub words : y.refusal ≡ 0 → (word_at after 0 ≡ pos x.depth) × (word_at after 1 ≡ pos x.kind) × (word_at after 2 ≡ x.moment)
 
 -- the shallowest depth of the grid that has a kind, with that kind and its own moment
-pub record Shallowest (s : Section) (x : FirstDepth) : Type 0 where
+pub record Shallowest (s : Section) (x : FirstAnswer) : Type 0 where
   pub balances : Balances s (record { depth = x.depth; kind = x.kind; moment = x.moment })
   pub above : (d : ℕ) → 1 ≤ d → d < x.depth → kind_at s d ≡ 0
 

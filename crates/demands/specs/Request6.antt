@@ -2,8 +2,7 @@
 use Rattle.std.specs.Prelude.{ℕ, ◌+◌, ◌*◌, ◌≤◌, ◌≡◌, ◌⊎◌}
 use Rattle.section.specs.declared.Section.{Section}
 use Rattle.section.specs.Accepted.{Accepted}
-use Rattle.depths.specs.declared.FirstDepth.{FirstDepth}
-use Rattle.depths.specs.declared.Listing.{Listing}
+use Rattle.depths.specs.Answers.{ListAnswer, FirstAnswer}
 use Rattle.record.specs.Record.{section_in}
 use Rattle.record.specs.Alone.{StandsAlone}
 use Rattle.demands.specs.Every as Every
@@ -14,7 +13,7 @@ abbrev pub ceiling : Section → ℕ
 ceiling s = s.h * (s.h + s.count)
 
 -- ---- of a first depth: the last depth looked at times h + m
-pub record FirstTook (s : Section) (x : FirstDepth) : Type 0 where
+pub record FirstTook (s : Section) (x : FirstAnswer) : Type 0 where
   -- x for kind 1, x + 1 for kind 2, and there is no other kind; h for refusal 14, nothing for any other
   pub kind_1 : x.refusal ≡ 0 → x.kind ≡ 1 → x.work ≡ x.depth * (s.h + s.count)
   pub kind_2 : x.refusal ≡ 0 → x.kind ≡ 2 → x.work ≡ (x.depth + 1) * (s.h + s.count)
@@ -25,7 +24,7 @@ pub record FirstTook (s : Section) (x : FirstDepth) : Type 0 where
   pub most : x.work ≤ ceiling s
 
 -- ---- of the list: exactly h (h + m) where it is written, where there is none and where the row is too short for it
-pub record ListTook (s : Section) (x : Listing) : Type 0 where
+pub record ListTook (s : Section) (x : ListAnswer) : Type 0 where
   pub whole : (x.refusal ≡ 0) ⊎ ((x.refusal ≡ 14) ⊎ (x.refusal ≡ 15)) → x.work ≡ ceiling s
   pub refused : (x.refusal ≡ 0 → ⊥) → (x.refusal ≡ 14 → ⊥) → (x.refusal ≡ 15 → ⊥) → x.work ≡ 0
   pub most : x.work ≤ ceiling s

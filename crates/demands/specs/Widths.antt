@@ -9,16 +9,16 @@ use borrow.Table.Referent.{rt_f, f_int}
 use borrow.Fn.Kinds.{ParamKind, p_num, p_s_num, res_t}
 use borrow.Kind.ShrSlice.{p_shr_s}
 use borrow.Kind.MutSlice.{p_mut_s}
-use Rattle.book.specs.contracts.BookAnswer as BookAnswer
-use Rattle.book.specs.contracts.RecordAnswer as RecordAnswer
-use Rattle.writer.specs.contracts.Written as Written
-use Rattle.class.specs.contracts.ClassAnswer as ClassAnswer
-use Rattle.strength.specs.contracts.StrengthAnswer as StrengthAnswer
+use Rattle.panel.specs.contracts.answers.BookAnswer as BookAnswer
+use Rattle.panel.specs.contracts.answers.RecordAnswer as RecordAnswer
+use Rattle.panel.specs.contracts.answers.Written as Written
+use Rattle.panel.specs.contracts.answers.ClassAnswer as ClassAnswer
+use Rattle.panel.specs.contracts.answers.StrengthAnswer as StrengthAnswer
 use Rattle.drawn.specs.contracts.Point as Point
-use Rattle.drawn.specs.contracts.Drawn as Drawn
-use Rattle.section.specs.contracts.Amount as Amount
-use Rattle.depths.specs.contracts.Listing as Listing
-use Rattle.depths.specs.contracts.FirstDepth as FirstDepth
+use Rattle.panel.specs.contracts.answers.Drawn as Drawn
+use Rattle.panel.specs.contracts.answers.Amount as Amount
+use Rattle.panel.specs.contracts.answers.Listing as Listing
+use Rattle.panel.specs.contracts.answers.FirstDepth as FirstDepth
 use Rattle.demands.specs.PublicContracts.{Contract}
 use Rattle.demands.specs.PublicContracts as Contracts
 

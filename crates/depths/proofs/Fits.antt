@@ -22,7 +22,9 @@ use Rattle.forces.specs.Axis.{axis_at}
 use Rattle.forces.proofs.Strains.{below_axis, axis_is}
 
 -- an axis by its strains
-by_scale : (a : Axis) (unit over : ℕ) → scale_of a ≡ record { num = 500 * unit; den = over } → 0 < over → over ≤ 22000 → 0 < unit → unit ≤ 50 → a.x ≤ 2000 → AxisFit a
+by_scale :
+    (a : Axis) (unit over : ℕ) → scale_of a ≡ record { num = 500 * unit; den = over }
+    → 0 < over → over ≤ 22000 → 0 < unit → unit ≤ 50 → a.x ≤ 2000 → AxisFit a
 by_scale a unit over e some most low high x =
     let num = ap (λ (k : Scale). k.num) e in
     let den = ap (λ (k : Scale). k.den) e in
@@ -37,11 +39,14 @@ axis_fits_is {s} k a some to e = pick (ltb ((law_of s).ratio * a.x) (7 * (law_of
     pick true t e =
         let deep = below_axis a.x (omega (arith, (law_in k).ratio)) (ltb-true _ _ t) in
         let strain : (law_of s).strain ≡ 500 * 20 = (law_in k).strain in
-        by_scale a 20 (2 * ((law_of s).limit - a.x)) (e ∙ ap (λ m. record { num = m; den = 2 * ((law_of s).limit - a.x) }) strain) (omega arith) (omega (arith, (law_in k).limit.1)) (omega arith) (omega arith)
+        by_scale a 20 (2 * ((law_of s).limit - a.x)) (e ∙ ap (λ m. record { num = m; den = 2 * ((law_of s).limit - a.x) }) strain)
+        (omega arith) (omega (arith, (law_in k).limit.1)) (omega arith) (omega arith)
         (omega (arith, k.sizes.1.1))
     pick false t e = by_scale a 7 (2 * a.x) e (omega arith) (omega (arith, k.sizes.1.1)) (omega arith) (omega arith) (omega (arith, k.sizes.1.1))
 
-pub always_fits : {s : Section} → Accepted s → {l : Law} → l ≡ law_of s → {x : ℕ} → 0 < x → x ≤ last_depth s → {a : Axis} → a ≡ axis_at l x → fits l a s.h ≡ true
+pub always_fits :
+    {s : Section} → Accepted s → {l : Law} → l ≡ law_of s
+    → {x : ℕ} → 0 < x → x ≤ last_depth s → {a : Axis} → a ≡ axis_at l x → fits l a s.h ≡ true
 unfolding edition
 always_fits {s} k {l} is some to {a} e =
     let n = law_in k in

@@ -1,10 +1,11 @@
 pub mod Within
 pub mod Fits
 pub mod Sided
+pub mod Bars
 pub mod Next
 pub mod Kept
 pub mod Listed
 pub mod Rows
-pub mod Answers
 pub mod Theorems
+pub mod Answers
 pub mod Shown

@@ -54,7 +54,8 @@ module _ (k : ℕ → ℕ) (m : ℕ → ℤ) where
   unfolding list_to
   list_all zero x from to some = absurd (omega arith)
   list_all (suc n) x from to some =
-      ⊎_elim (λ e. rw e (Memᴰ.append_right (list_to k m n) (last (rw e at some)))) (λ h. Memᴰ.append_left (entry_at k m (suc n)) (list_all n x from (omega arith) some))
+      ⊎_elim (λ e. rw e (Memᴰ.append_right (list_to k m n) (last (rw e at some))))
+      (λ h. Memᴰ.append_left (entry_at k m (suc n)) (list_all n x from (omega arith) some))
       (NatL.eq-or-lt_of_le to)
     where
       last : 0 < k (suc n) → Memᴰ (entry (suc n)) (entry_at k m (suc n))
@@ -63,7 +64,8 @@ module _ (k : ℕ → ℕ) (m : ℕ → ℤ) where
   pub list_rising : (n : ℕ) → Rising 0 (list_to k m n)
   unfolding list_to
   list_rising zero = tt
-  list_rising (suc n) = rising_next 0 (list_to k m n) (entry (suc n)) (eqb (k (suc n)) 0) (list_rising n) (λ f w. omega (arith, (list_only n f w).1)) (omega arith)
+  list_rising (suc n) =
+      rising_next 0 (list_to k m n) (entry (suc n)) (eqb (k (suc n)) 0) (list_rising n) (λ f w. omega (arith, (list_only n f w).1)) (omega arith)
 
   -- ---- where no depth has one
   pub list_empty : (n : ℕ) → list_to k m n ≡ [] → (x : ℕ) → 1 ≤ x → x ≤ n → k x ≡ 0

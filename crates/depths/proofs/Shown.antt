@@ -18,12 +18,11 @@ use Rattle.arith.specs.Lines.{line, first_of}
 use Rattle.arith.proofs.Signed.{zarith}
 use Rattle.section.specs.declared.Section.{Section}
 use Rattle.section.specs.Refusal.{section_refusal}
-use Rattle.depths.specs.declared.Listing.{Listing}
 use Rattle.forces.specs.Forces.{moment}
 use Rattle.section.specs.Has.{last_depth}
 use Rattle.depths.specs.Depths.{Entry, entry_of, kind_at, listed, words, written, Balances, NoDepth, Rising}
 use Rattle.depths.specs.Row.{word_at, ReadAt, Shown, how_many}
-use Rattle.depths.specs.Answers.{depths_refusal, list_refusal, list_answer, row_after}
+use Rattle.depths.specs.Answers.{ListAnswer, depths_refusal, list_refusal, list_answer, row_after}
 use Rattle.depths.proofs.Listed.{at_place, count_kinds, words_length, word_of}
 use Rattle.depths.proofs.Answers.{list_number, list_count}
 use Rattle.depths.proofs.Theorems.{listed_exactly, listed_rising, fourteen_exactly}
@@ -81,13 +80,14 @@ fails : (t : Bool) → line t 15 0 ≡ 15 → t ≡ false
 fails true e = absurd (omega arith)
 fails false e = refl
 
-fifteen_where_short : (es : List Entry) (room : ℕ) → (first_of (line (ltb 0 (length es)) 14 0) (line (leb (3 * length es) room) 15 0) ≡ 15) ↔ (room < 3 * length es)
+fifteen_where_short :
+    (es : List Entry) (room : ℕ) → (first_of (line (ltb 0 (length es)) 14 0) (line (leb (3 * length es) room) 15 0) ≡ 15) ↔ (room < 3 * length es)
 fifteen_where_short [] room = (λ e. absurd (omega arith), λ h. absurd (omega arith))
 fifteen_where_short (e ∷ es) room =
     rw (lt-ltb 0 (length (e ∷ es)) (omega arith)) (λ f. leb-false _ room (fails _ f), λ h. rw (lt-leb (3 * length (e ∷ es)) room h))
 
 -- ---- of the answer and of the row that `depths` leaves
-module _ (s : Section) (row : List ℤ) {a : Listing} {after : List ℤ} (is : a ≡ list_answer s (length row)) (left : after ≡ row_after s row) where
+module _ (s : Section) (row : List ℤ) {a : ListAnswer} {after : List ℤ} (is : a ≡ list_answer s (length row)) (left : after ≡ row_after s row) where
   -- on any refusal the row is as it was
   pub row_kept : (a.refusal ≡ 0 → ⊥) → after ≡ row
   unfolding row_after

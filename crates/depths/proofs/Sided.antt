@@ -6,15 +6,21 @@ use mathlib.Core.Logic.{⊎_elim}
 use native.Mathlib.Omega.{arith}
 use lib.Dec.{ltb, eqb}
 use lib.IntN.{ℤ, pos, negsuc, nat_abs}
-use lib.Signed.{lt_z, ◌<ℤ◌, ◌≤ℤ◌}
+use lib.Signed.{lt_z, ◌<ℤ◌}
 use borrow.Author.Tests.{lt-ltb, le-ltb, ne_eqb}
-use Rattle.arith.proofs.Signed.{abs_parts, lt_test, test_le, zarith}
+use Rattle.std.specs.declared.cmp.Ordering.{Ordering}
+use Rattle.std.specs.declared.cmp.Ordering.TheVariants.{Less, Equal, Greater}
+use Rattle.std.specs.Ordering.{is_lt, is_gt}
+use Rattle.std.specs.Prelude.{Some}
+use Rattle.arith.proofs.Signed.{abs_parts, lt_test, zarith}
 use Rattle.arith.proofs.Tests.{less_or_not}
 use Rattle.section.specs.declared.Section.{Section}
 use Rattle.forces.specs.Forces.{imbalance}
 use Rattle.section.specs.Has.{last_depth}
-use Rattle.depths.specs.Depths.{opposite, kind_at}
-use Rattle.depths.specs.Code.{sign_of}
+use Rattle.depths.specs.declared.Kind.{Kind}
+use Rattle.depths.specs.declared.Kind.TheVariants.{Zero, Pair}
+use Rattle.depths.specs.Depths.{kind_number, opposite, kind_at}
+use Rattle.depths.specs.Code.{sign_of, opposed}
 
 pub falls : {a b : ℤ} → pos 0 <ℤ a → b <ℤ pos 0 → opposite a b ≡ true
 falls p q = rw (lt_test p, lt_test q, or-true)
@@ -23,45 +29,22 @@ pub rises : {a b : ℤ} → a <ℤ pos 0 → pos 0 <ℤ b → opposite a b ≡ t
 rises p q = rw (lt_test p, lt_test q)
 
 -- ---- the sign of a number, by its two tests
-by_sign : (P : Bool → Bool → ℕ → Type 0) → P true false 2 → P false true 1 → P false false 0 → (z : ℤ) → P (lt_z z (pos 0)) (lt_z (pos 0) z) (sign_of z)
-unfolding sign_of
+by_sign : (P : Bool → Bool → Ordering → Type 0) → P true false Less → P false true Greater → P false false Equal
+    → (z : ℤ) → P (lt_z z (pos 0)) (lt_z (pos 0) z) (sign_of z)
 by_sign P below above none (pos zero) = rw (le-ltb 0 0 (omega arith)) none
 by_sign P below above none (pos (suc n)) = rw (le-ltb (suc n) 0 (omega arith), lt-ltb 0 (suc n) (omega arith)) above
 by_sign P below above none (negsuc n) = below
 
-pub sign_below : (z : ℤ) → lt_z z (pos 0) ≡ true → 2 ≡ sign_of z
-unfolding sign_of
-sign_below z e = rw e
+tests : (z : ℤ) → (lt_z z (pos 0) ≡ is_lt (sign_of z)) × (lt_z (pos 0) z ≡ is_gt (sign_of z))
+tests z = by_sign (λ p q n. (p ≡ is_lt n) × (q ≡ is_gt n)) (refl, refl) (refl, refl) (refl, refl) z
 
-pub sign_above : (z : ℤ) → lt_z (pos 0) z ≡ true → 1 ≡ sign_of z
-sign_above z = by_sign (λ p q n. q ≡ true → 1 ≡ n) (λ e. absurd (false≢true e)) (λ e. refl) (λ e. absurd (false≢true e)) z
+pub opposite_signs : (a b : ℤ) → opposite a b ≡ opposed (Some (sign_of a)) (sign_of b)
+opposite_signs a b = λ j. ((tests a).0 j && (tests b).1 j) || ((tests a).1 j && (tests b).0 j)
 
-pub sign_none : (z : ℤ) → lt_z z (pos 0) ≡ false → lt_z (pos 0) z ≡ false → 0 ≡ sign_of z
-unfolding sign_of
-sign_none z p q = rw (p, q)
-
-pub sign_most : {n : ℕ} (z : ℤ) → n ≡ sign_of z → n ≤ 2
-sign_most z e = rw e (by_sign (λ p q n. n ≤ 2) (omega arith) (omega arith) (omega arith) z)
-
-pub sign_zero : (z : ℤ) → sign_of z ≡ 0 → z ≡ pos 0
-sign_zero z e =
-    let no = by_sign (λ p q n. n ≡ 0 → (p ≡ false) × (q ≡ false)) (λ e. absurd (omega arith)) (λ e. absurd (omega arith)) (λ e. (refl, refl)) z e in
-    let low : pos 0 ≤ℤ z = test_le no.0 in
-    let high : z ≤ℤ pos 0 = test_le no.1 in
-    omega (arith, zarith)
-
-pub zero_sign : {z : ℤ} → z ≡ pos 0 → sign_of z ≡ 0
-unfolding sign_of
-zero_sign e = rw e
-
--- of two signs 1 and 2 are opposite, and no others make 3
-pub opposite_signs : (a b : ℤ) → opposite a b ≡ eqb (sign_of a + sign_of b) 3
-opposite_signs a b =
-    by_sign (λ p q m. (p && lt_z (pos 0) b) || (q && lt_z b (pos 0)) ≡ eqb (m + sign_of b) 3)
-    (by_sign (λ r t n. (true && t) || (false && r) ≡ eqb (2 + n) 3) refl refl refl b)
-    (by_sign (λ r t n. (false && t) || (true && r) ≡ eqb (1 + n) 3) refl refl refl b)
-    (by_sign (λ r t n. (false && t) || (false && r) ≡ eqb (0 + n) 3) refl refl refl b)
-    a
+-- a kind is none of 0
+pub kind_some : (k : Kind) → kind_number k ≡ 0 → ⊥
+kind_some Zero e = omega arith
+kind_some Pair e = omega arith
 
 module _ (s : Section) (x : ℕ) where
   pub kind_one : imbalance s x ≡ pos 0 → kind_at s x ≡ 1

@@ -66,7 +66,9 @@ unfolding list_refusal depths_refusal
 fourteen_exactly s room ok = rw ok (Iff.trans (fourteen_where_empty (listed s) _ (not_fourteen (leb (3 * length (listed s)) room))) (none_listed s))
 
 -- ---- 2. a depth whose imbalance is on one side of zero, and the next one's on the other, is listed
-listed_as : (s : Section) (x kind : ℕ) → 1 ≤ x → x ≤ last_depth s → kind_at s x ≡ suc kind → Memᴰ (record { depth = x; kind = suc kind; moment = moment s x }) (listed s)
+listed_as :
+    (s : Section) (x kind : ℕ) → 1 ≤ x → x ≤ last_depth s → kind_at s x ≡ suc kind
+    → Memᴰ (record { depth = x; kind = suc kind; moment = moment s x }) (listed s)
 listed_as s x kind from to e = rw e at (list_all (kind_at s) (moment s) (last_depth s) x from to (omega arith))
 
 pub pair_listed :

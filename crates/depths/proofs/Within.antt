@@ -1,6 +1,6 @@
 -- The imbalance of a section at a depth, by bounds of its strips' force. Assumes nothing.
 use Prim.Native.Nat.{ℕ, zero, suc, ◌+◌, ◌*◌, ◌-◌, ◌^◌, ◌≤◌, ◌<◌}
-use mathlib.Core.Path.{◌≡◌, refl, sym, ap, ◌∙◌}
+use mathlib.Core.Path.{◌≡◌, refl, sym, ap, ◌∙◌, subst}
 use mathlib.Core.Bool.{true}
 use mathlib.Core.Logic.{◌⊎◌, inl, inr, ⊎_elim}
 use native.Mathlib.Nat as NatL
@@ -8,18 +8,18 @@ use native.Mathlib.Omega.{arith}
 use lib.IntN.{ℤ, pos, nat_abs, ◌+ℤ◌, ◌-ℤ◌, ◌*ℤ◌}
 use lib.Signed.{lt_z, ◌≤ℤ◌, ◌<ℤ◌}
 use mir.Syntax.{w64}
-use mir.Val.{to_z, SFits}
+use mir.Val.{to_z}
 use borrow.Author.Tests.{lt-ltb, le-ltb}
 use Rattle.arith.specs.Sums.{sum_z, after}
 use Rattle.arith.proofs.Tests.{less_or_not}
 use Rattle.arith.proofs.Sums.{signed_cut}
-use Rattle.arith.proofs.Signed.{zarith, le_parts, parts_add, parts_minus, up_scale, dn_scale, mul_add, lt_test, test_lt}
-use Rattle.arith.proofs.Machine.{back, Stands, stands, stands_pos, stands_add, stands_sub, stands_mul, stands_fits, stored}
+use Rattle.arith.proofs.Signed.{zarith, le_parts, parts_add, parts_minus, up_scale, dn_scale, mul_add, test_lt}
+use Rattle.arith.proofs.Machine.{back, Stands, stands, stands_pos, stands_add, stands_sub, stands_mul, stored}
 use Rattle.section.specs.declared.Section.{Section}
 use Rattle.section.specs.Accepted.{Accepted}
 use Rattle.section.specs.Has.{width_at, load_of}
 use Rattle.section.proofs.Load.{load_held, load_in_m_n}
-use Rattle.section.proofs.Widths.{flange_width_is, web_width}
+use Rattle.section.proofs.Widths.{flange_width_is, web_width, flange_inside}
 use Rattle.law.specs.declared.Law.{Law}
 use Rattle.law.specs.Law.{law_of}
 use Rattle.strips.specs.declared.Axis.{Axis}
@@ -28,7 +28,13 @@ use Rattle.strips.specs.Strips.{scale_of, strip_at}
 use Rattle.strips.specs.Code.{Holds}
 use Rattle.forces.specs.Forces.{strain_scale, strip_force, bar_force, forces, imbalance}
 use Rattle.forces.proofs.Strips.{strip_is}
-use Rattle.depths.specs.Code.{most_run, most_bars, Lies, run_end, Summed}
+use Rattle.std.specs.Prelude.{Some}
+use Rattle.std.specs.declared.cmp.Ordering.TheVariants.{Less, Greater}
+use Rattle.std.specs.Cmp.{int_cmp_is}
+use Rattle.depths.specs.declared.sign.Run.{Run}
+use Rattle.depths.specs.declared.sign.Runs.{Runs}
+use Rattle.depths.specs.Code.{most_run, most_bars, Lies, run_end, Summed, sign_of}
+use Rattle.depths.specs.Runs.{NextRun}
 
 -- ---- so many times a sum
 scaled : (w n : ℕ) (f g : ℕ → ℤ) → ((i : ℕ) → i < n → f i ≡ pos w *ℤ g i) → sum_z n f ≡ pos w *ℤ sum_z n g
@@ -55,19 +61,13 @@ run_lies {w} wide sum {r} b =
 
 -- a sum of forces and one more
 module _ {F G : ℤ} {m n : ℕ} {r t : Range} (b : Lies F m r) (c : Lies G n t) (room : m + n < 2 ^ 63) where
-  low_stands : Stands (r.low +ℤ back t.low) (r.low +ℤ t.low) (m + n)
-  low_stands = stands_add (stands r.low m b.low_most) (stored (stands t.low n c.low_most) (omega arith))
+  low_stands : Stands (back r.low +ℤ back t.low) (r.low +ℤ t.low) (m + n)
+  low_stands = stands_add (stored (stands r.low m b.low_most) (omega arith)) (stored (stands t.low n c.low_most) (omega arith))
 
-  high_stands : Stands (r.high +ℤ back t.high) (r.high +ℤ t.high) (m + n)
-  high_stands = stands_add (stands r.high m b.high_most) (stored (stands t.high n c.high_most) (omega arith))
+  high_stands : Stands (back r.high +ℤ back t.high) (r.high +ℤ t.high) (m + n)
+  high_stands = stands_add (stored (stands r.high m b.high_most) (omega arith)) (stored (stands t.high n c.high_most) (omega arith))
 
-  low_fits : SFits w64 (r.low +ℤ back t.low)
-  low_fits = stands_fits low_stands room
-
-  high_fits : SFits w64 (r.high +ℤ back t.high)
-  high_fits = stands_fits high_stands room
-
-  both_lie : Lies (F +ℤ G) (m + n) (record { low = back (r.low +ℤ back t.low); high = back (r.high +ℤ back t.high) })
+  both_lie : Lies (F +ℤ G) (m + n) (record { low = back (back r.low +ℤ back t.low); high = back (back r.high +ℤ back t.high) })
   both_lie =
       rw ((stored low_stands room).is, (stored high_stands room).is)
       (record {
@@ -110,30 +110,21 @@ module _ {s : Section} {force : ℕ → ℤ} where
   summed_all {from} b h = let e : from ≡ s.h = omega (arith, b.inside) in rw e at (wider {n = most_run * 2} (omega (arith, b.two)) b.lies)
 
   -- one run more
-  module _ {from : ℕ} {r t : Range} {G : ℤ} (inside : s.hf ≤ s.h) (b : Summed s force from r) (more : from < s.h) (c : Lies G most_run t) where
-    room : most_run * b.runs + most_run < 2 ^ 63
-    room = omega (arith, b.one more)
-
-    pub low_runs : SFits w64 (r.low +ℤ back t.low)
-    low_runs = low_fits b.lies c room
-
-    pub high_runs : SFits w64 (r.high +ℤ back t.high)
-    high_runs = high_fits b.lies c room
-
-    pub summed_next :
-        {end : ℕ} → end ≡ run_end s from → sum_z from force +ℤ G ≡ sum_z (run_end s from) force
-        → Summed s force end (record { low = back (r.low +ℤ back t.low); high = back (r.high +ℤ back t.high) })
-    summed_next is e =
-        let ends = run_ends s from in
-        rw is
-        (record {
-          runs = b.runs + 1;
-          two = omega (arith, b.one more);
-          one = λ k. ⊎_elim (λ p. omega (arith, b.none p.0)) (λ p. absurd (omega (arith, p.1))) ends;
-          none = λ k. ⊎_elim (λ p. absurd (omega (arith, p.1))) (λ p. absurd (omega (arith, p.1))) ends;
-          inside = (run_longer s from inside more).1;
-          lies = rw (← e) (wider (omega arith) (both_lie b.lies c room));
-        })
+  summed_next :
+      {from end : ℕ} {r t : Range} {G : ℤ} → s.hf ≤ s.h → Summed s force from r → from < s.h → Lies G most_run t
+      → end ≡ run_end s from → sum_z from force +ℤ G ≡ sum_z (run_end s from) force
+      → Summed s force end (record { low = back (back r.low +ℤ back t.low); high = back (back r.high +ℤ back t.high) })
+  summed_next {from} inside b more c is e =
+      let ends = run_ends s from in
+      rw is
+      (record {
+        runs = b.runs + 1;
+        two = omega (arith, b.one more);
+        one = λ k. ⊎_elim (λ p. omega (arith, b.none p.0)) (λ p. absurd (omega (arith, p.1))) ends;
+        none = λ k. ⊎_elim (λ p. absurd (omega (arith, p.1))) (λ p. absurd (omega (arith, p.1))) ends;
+        inside = (run_longer s from inside more).1;
+        lies = rw (← e) (wider (omega arith) (both_lie b.lies c (omega (arith, b.one more))));
+      })
 
 -- ---- the strips' force: a run of strips of one width, and all of them
 module _ {s : Section} (ok : Accepted s) {l : Law} (law : l ≡ law_of s) (a : Axis) (scale : scale_of a ≡ strain_scale (law_of s) a.x) where
@@ -152,7 +143,23 @@ module _ {s : Section} (ok : Accepted s) {l : Law} (law : l ≡ law_of s) (a : A
   -- the strips before a run and those of it
   pub run_on : (from to : ℕ) → from ≤ to → ((i : ℕ) → from ≤ i → i < to → width_at s i ≡ width_at s from)
       → sum_z from force +ℤ (pos (width_at s from) *ℤ sum_z (to - from) (after from (strip_at l a))) ≡ sum_z to force
-  run_on from to h wide = (λ j. sym (whole from) j +ℤ sym (run_is (width_at s from) from to h wide) j) ∙ sym (signed_cut force 0 from to (omega arith) h) ∙ whole to
+  run_on from to h wide =
+      (λ j. sym (whole from) j +ℤ sym (run_is (width_at s from) from to h wide) j)
+      ∙ sym (signed_cut force 0 from to (omega arith) h) ∙ whole to
+
+  -- the next run of strips, and where its force lies
+  module _ {w v : Runs} {run : Run} (of : w.section ≡ s) (next : NextRun w (Some run) v) where
+    longer : (w.from < run_end s w.from) × (run_end s w.from ≤ s.h)
+    longer = run_longer s w.from (flange_inside ok) (rw of at next.1.0)
+
+    pub summed_run :
+        {r t : Range} → Summed s force w.from r → Lies (pos run.width *ℤ sum_z (run.end - run.from) (after run.from (strip_at l a))) most_run t
+        → Summed s force v.from (record { low = back (back r.low +ℤ back t.low); high = back (back r.high +ℤ back t.high) })
+    summed_run {r} {t} b lies =
+        let p = (rw of at next).1 in
+        summed_next (flange_inside ok) b p.0
+        (subst (λ z. Lies z most_run t) (λ j. pos (p.2 j) *ℤ sum_z (p.3 j - p.1 j) (after (p.1 j) (strip_at l a))) lies)
+        (p.4 ∙ p.3) (run_on w.from (run_end s w.from) (omega (arith, longer.0)) (one_width s w.from))
 
 -- ---- the code's steps: bars less the load, and a bound of the strips' force with them
 module _ {s : Section} (ok : Accepted s) (B : ℤ) (few : nat_abs B ≤ most_bars) where
@@ -166,21 +173,21 @@ module _ {s : Section} (ok : Accepted s) (B : ℤ) (few : nat_abs B ≤ most_bar
   bounded z small = stands_add (stored (stands z (most_run * 2) small) (omega arith)) (stored rest (omega arith))
 
 -- ---- the sign of the imbalance by a bound on one side of zero
-module _ (s : Section) (x : ℕ) {B : ℤ} (bars : B ≡ sum_z s.count (bar_force (law_of s) s x)) {z : ℤ} where
-  pub is_below : sum_z s.h (strip_force (law_of s) s x) ≤ℤ z → lt_z (z +ℤ (B -ℤ load_of s)) (pos 0) ≡ true → lt_z (imbalance s x) (pos 0) ≡ true
+module _ (s : Section) (x : ℕ) {B : ℤ} (bars : B ≡ sum_z s.count (bar_force (law_of s) s x)) (F : ℤ) (all : F ≡ sum_z s.h (strip_force (law_of s) s x)) where
+  total : (F +ℤ B) -ℤ load_of s ≡ imbalance s x
   unfolding imbalance forces
-  is_below h t =
-      let F = sum_z s.h (strip_force (law_of s) s x) in
+  total = λ i. (all i +ℤ bars i) -ℤ load_of s
+
+  pub is_below : (z : ℤ) → F ≤ℤ z → lt_z (z +ℤ (B -ℤ load_of s)) (pos 0) ≡ true → Less ≡ sign_of (imbalance s x)
+  is_below z h t =
       let e : (z +ℤ (B -ℤ load_of s)) <ℤ pos 0 = test_lt t in
       let lies : ((F +ℤ B) -ℤ load_of s) <ℤ pos 0 =
       omega (arith, zarith, h, parts_add F B, parts_minus (F +ℤ B) (load_of s), parts_minus B (load_of s), parts_add z (B -ℤ load_of s)) in
-      rw (← bars) (lt_test lies)
+      int_cmp_is (imbalance s x) (pos 0) Less (rw total at lies)
 
-  pub is_above : z ≤ℤ sum_z s.h (strip_force (law_of s) s x) → lt_z (pos 0) (z +ℤ (B -ℤ load_of s)) ≡ true → lt_z (pos 0) (imbalance s x) ≡ true
-  unfolding imbalance forces
-  is_above h t =
-      let F = sum_z s.h (strip_force (law_of s) s x) in
+  pub is_above : (z : ℤ) → z ≤ℤ F → lt_z (pos 0) (z +ℤ (B -ℤ load_of s)) ≡ true → Greater ≡ sign_of (imbalance s x)
+  is_above z h t =
       let e : pos 0 <ℤ (z +ℤ (B -ℤ load_of s)) = test_lt t in
       let lies : pos 0 <ℤ ((F +ℤ B) -ℤ load_of s) =
       omega (arith, zarith, h, parts_add F B, parts_minus (F +ℤ B) (load_of s), parts_minus B (load_of s), parts_add z (B -ℤ load_of s)) in
-      rw (← bars) (lt_test lies)
+      int_cmp_is (imbalance s x) (pos 0) Greater (rw total at lies)

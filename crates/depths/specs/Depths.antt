@@ -4,11 +4,18 @@ use Rattle.std.specs.Int.Signed.{lt_z}
 use Rattle.section.specs.declared.Section.{Section}
 use Rattle.section.specs.Has.{last_depth}
 use Rattle.law.specs.declared.Law.{Law}
+use Rattle.depths.specs.declared.Kind.{Kind}
+use Rattle.depths.specs.declared.Kind.TheVariants.{Zero, Pair}
 use Rattle.forces.specs.Forces.{imbalance_under, moments, imbalance, moment}
 
 -- strictly opposite signs
 abbrev pub opposite : ℤ → ℤ → Bool
 opposite a b = (lt_z a (pos 0) && lt_z (pos 0) b) || (lt_z (pos 0) a && lt_z b (pos 0))
+
+-- the kinds, by their numbers
+abbrev pub kind_number : Kind → ℕ
+kind_number Zero = 1
+kind_number Pair = 2
 
 -- of any imbalances on a grid: kind 1 if the imbalance is zero, kind 2 if it has the opposite sign at the next depth of the grid, else none
 abbrev pub kind_of : (ℕ → ℤ) → (last : ℕ) → ℕ → ℕ

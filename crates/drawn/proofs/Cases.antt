@@ -6,7 +6,7 @@ use native.Mathlib.Nat as NatL
 use native.Mathlib.Omega.{arith}
 use lib.Dec.{leb}
 use lib.IntN.{pos}
-use borrow.Author.Tests.{leb-true, leb-false, le-leb, lt-leb}
+use borrow.Author.Tests.{leb-true, leb-false}
 use Rattle.arith.specs.Floats.{whole}
 use Rattle.law.specs.declared.Law.{Law}
 use Rattle.law.specs.Ranges.{Lawful}
@@ -16,25 +16,6 @@ use Rattle.drawn.specs.declared.Piece.{Piece}
 use Rattle.drawn.specs.declared.Piece.TheVariants.{Flat, Parabola}
 use Rattle.drawn.specs.Pieces.{down, stretched_piece, compressed_piece}
 
--- ---- the piece
-module _ (l : Law) (p : ℕ) where
-  pub on_first : p ≤ l.e1 → down 0 0 l.e1 l.s1 ≡ stretched_piece l p
-  unfolding stretched_piece
-  on_first a = rw (le-leb p l.e1 a)
-
-  pub on_second : l.e1 < p → p ≤ l.e2 → down l.e1 l.s1 l.e2 l.s2 ≡ stretched_piece l p
-  unfolding stretched_piece
-  on_second a b = rw (lt-leb p l.e1 a, le-leb p l.e2 b)
-
-  pub on_third : l.e1 < p → l.e2 < p → p ≤ l.e3 → down l.e2 l.s2 l.e3 l.s3 ≡ stretched_piece l p
-  unfolding stretched_piece
-  on_third a b c = rw (lt-leb p l.e1 a, lt-leb p l.e2 b, le-leb p l.e3 c)
-
-  pub beyond : l.e1 < p → l.e2 < p → l.e3 < p → Flat (whole (pos 0)) ≡ stretched_piece l p
-  unfolding stretched_piece
-  beyond a b c = rw (lt-leb p l.e1 a, lt-leb p l.e2 b, lt-leb p l.e3 c)
-
--- ---- the piece and the fraction
 module _ (Q : Piece → Stress → Type 0) where
   split :
       (c d : Bool) (a b : Piece) (t u : Stress)

@@ -30,8 +30,12 @@ apart a b h k =
 further : (a s v : ℕ) → a < 4294967296 → s < 65536 → v < 65536 → add binary64 (below a) (mul binary64 (below s) (whole (pos v))) ≡ below (a + s * v)
 further a s v h k j =
     let q = narrow_product s v k j in
-    let loose = subst (λ (w : ℤ). Loose (mul binary64 (below s) (whole (pos v))) w) (times s v) (mul_loose (neg_ℤ (pos s)) (pos v) (omega (arith, abs_neg (pos s))) (omega arith)) in
-    add_loose (neg_ℤ (pos a)) (neg_ℤ (pos (s * v))) _ (omega (arith, abs_neg (pos a))) (omega (arith, abs_neg (pos (s * v)))) loose ∙ ap whole (plus a (s * v))
+    let product = mul binary64 (below s) (whole (pos v)) in
+    let loose =
+    subst (λ (w : ℤ). Loose product w) (times s v)
+    (mul_loose (neg_ℤ (pos s)) (pos v) (omega (arith, abs_neg (pos s))) (omega arith)) in
+    add_loose (neg_ℤ (pos a)) (neg_ℤ (pos (s * v))) _ (omega (arith, abs_neg (pos a))) (omega (arith, abs_neg (pos (s * v)))) loose
+    ∙ ap whole (plus a (s * v))
 
 module _ (ea sa eb sb p : ℕ) (long : ea < eb) (from : ea ≤ p) (to : p ≤ eb) (E : eb < 65536) (A : sa < 65536) (B : sb < 65536) where
   ramp_exact : evaluated (down ea sa eb sb) (below p) ≡ drawn_stress (ramp ea sa eb sb p 1)
@@ -47,13 +51,17 @@ module _ (ea sa eb sb p : ℕ) (long : ea < eb) (from : ea ≤ p) (to : p ≤ eb
       div binary64
       (add binary64 (add binary64 (below 0) (mul binary64 (below sb) (apart ea p from (omega arith) i))) (mul binary64 (below sa) (apart p eb to E i)))
       (apart ea eb (omega arith) E i))
-      ∙ ap (λ (x : Float). div binary64 (add binary64 x (mul binary64 (below sa) (whole (pos u)))) (whole (pos (eb - ea)))) (further 0 sb v (omega arith) B (omega arith))
+      ∙ ap (λ (x : Float). div binary64 (add binary64 x (mul binary64 (below sa) (whole (pos u)))) (whole (pos (eb - ea))))
+      (further 0 sb v (omega arith) B (omega arith))
       ∙ ap (λ (x : Float). div binary64 x (whole (pos (eb - ea)))) (further (0 + sb * v) sa u (omega arith) A (omega arith))
       ∙ div_whole (neg_ℤ (pos n)) (eb - ea) (omega arith) (omega (arith, abs_neg (pos n))) (omega arith)
       ∙ (λ i. frac (neg_ℤ (pos (num i))) (sym (NatL.mul-one (eb - ea)) i))
 
 -- ---- the parabola
-parabola_exact : (fcd p : ℕ) → fcd < 65536 → p ≤ 2000 → evaluated (Parabola (whole (pos fcd)) (whole (pos 2000))) (whole (pos p)) ≡ drawn_stress (parabola fcd p 1)
+parabola_exact :
+    (fcd p : ℕ)
+    → fcd < 65536 → p ≤ 2000
+    → evaluated (Parabola (whole (pos fcd)) (whole (pos 2000))) (whole (pos p)) ≡ drawn_stress (parabola fcd p 1)
 unfolding evaluated
 parabola_exact fcd p h k =
     let b = 4000 - p in
@@ -77,4 +85,5 @@ unfolding piece_at
 drawn_exactly l o n (pos p) =
     compressed_by (λ a t. evaluated a (whole (pos p)) ≡ drawn_stress t) l p (parabola_exact l.fcd p n.fcd) (level_exact l.fcd (whole (pos p)))
 drawn_exactly l o n (negsuc k) =
-    stretched_by (λ a t. evaluated a (below (suc k)) ≡ drawn_stress t) l (suc k) o n (λ ea sa eb sb. ramp_exact ea sa eb sb (suc k)) (level_exact 0 (below (suc k)))
+    stretched_by (λ a t. evaluated a (below (suc k)) ≡ drawn_stress t) l (suc k) o n
+    (λ ea sa eb sb. ramp_exact ea sa eb sb (suc k)) (level_exact 0 (below (suc k)))

@@ -2,5 +2,5 @@ pub mod Cases
 pub mod Ends
 pub mod Exact
 pub mod Strains
-pub mod Answers
 pub mod Within
+pub mod Literals

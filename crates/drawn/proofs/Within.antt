@@ -21,7 +21,7 @@ use Rattle.law.specs.Stress.{Stress, signed, flat, ramp, parabola}
 use Rattle.law.specs.Sizes.{Small}
 use Rattle.law.proofs.Ranges.{law_in}
 use Rattle.law.proofs.Sizes.{law_small}
-use Rattle.drawn.specs.Drawn.{stress_at, drawn_stress, PointNear, in_drawn_range, drawn_refusal, drawn_answer}
+use Rattle.drawn.specs.Drawn.{stress_at, drawn_stress, PointNear, in_drawn_range, point_at, drawn_refusal}
 use Rattle.drawn.proofs.Cases.{compressed_by, stretched_by}
 use Rattle.drawn.proofs.Strains.{drawn_size}
 
@@ -57,10 +57,10 @@ fine : (l : Law) → Lawful l → Small l → (e : ℤ) → Fine (stress_at l e)
 fine l o n (pos p) = compressed_by (λ a t. Fine t) l p (parabola_fine l.fcd p n.fcd) (level_fine false l.fcd n.fcd)
 fine l o n (negsuc k) = stretched_by (λ a t. Fine t) l (suc k) o n (λ ea sa eb sb. ramp_fine ea sa eb sb (suc k)) (level_fine true 0 (omega arith))
 
-pub point_near : (s : Section) (e : ℤ) → drawn_refusal s e ≡ 0 → PointNear (law_of s) e (drawn_answer s e).point
-unfolding drawn_answer drawn_refusal
+pub point_near : (s : Section) (e : ℤ) → drawn_refusal s e ≡ 0 → PointNear (law_of s) e (point_at (law_of s) e)
+unfolding drawn_refusal
 point_near s e h =
     let p = none_of (section_refusal s) (line (in_drawn_range e) 18 0) h in
     let q = (passed (in_drawn_range e) 17 0 p.1).0 in
     let a = accepted s p.0 in
-    rw (p.0, q) (holds e (omega (arith, drawn_size e q)), near (stress_at (law_of s) e) (fine (law_of s) (law_in a).lines (law_small a) e))
+    (holds e (omega (arith, drawn_size e q)), near (stress_at (law_of s) e) (fine (law_of s) (law_in a).lines (law_small a) e))

@@ -1,17 +1,14 @@
 -- Document 01, 'Stress at a strain': a drawn point, one strain with its stress, compression positive.
 use Rattle.std.specs.Prelude.{ℕ, Bool, ◌&&◌, ℤ, pos, neg_ℤ, nat_abs, ◌≤ℤ◌, Float}
 use Rattle.std.specs.Int.Signed.{le_z}
-use Rattle.arith.specs.Answers.{unless_refused}
 use Rattle.arith.specs.Floats.{is_neg, whole, frac, Holds, Near}
 use Rattle.arith.specs.Lines.{line, first_of}
 use Rattle.section.specs.declared.Section.{Section}
 use Rattle.section.specs.Refusal.{section_refusal}
 use Rattle.law.specs.declared.Law.{Law}
 use Rattle.law.specs.Edition.{edition}
-use Rattle.law.specs.Law.{law_of}
 use Rattle.law.specs.Stress.{Stress, signed, concrete}
 use Rattle.drawn.specs.declared.Point.{Point}
-use Rattle.drawn.specs.declared.Drawn.{Drawn}
 
 -- the exact stress at a whole strain: the strips' own, at nat_abs e over 1
 abbrev pub stress_at : Law → ℤ → Stress
@@ -39,16 +36,3 @@ in_drawn_range e = le_z (neg_ℤ (pos edition.drawn_tension)) e && le_z e (pos e
 -- 7 to 13 with 20 first, then 18
 unfoldable pub drawn_refusal : Section → ℤ → ℕ
 drawn_refusal s e = first_of (section_refusal s) (line (in_drawn_range e) 18 0)
-
-abbrev pub drawn : Point → Drawn
-drawn point = record { refusal = 0; point = point }
-
--- plus zeros
-abbrev pub no_point : Point
-no_point = record { strain = whole (pos 0); stress = whole (pos 0) }
-
-abbrev pub refused : ℕ → Drawn
-refused number = record { refusal = number; point = no_point }
-
-unfoldable pub drawn_answer : Section → ℤ → Drawn
-drawn_answer s e = unless_refused (drawn_refusal s e) (drawn (point_at (law_of s) e)) refused

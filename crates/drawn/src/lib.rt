@@ -1,12 +1,14 @@
 // The law as the panel draws it: pieces in f64, and a point of a section's law at a whole strain (document 01, 'Stress at a strain').
 #![tactic(auto)]
 
-ghost use Rattle.std.specs.Prelude.{◌≡◌, ◌^◌, ◌<◌, nat_abs};
-ghost use Rattle.law.specs.Edition.{edition};
-ghost use Rattle.drawn.specs.Drawn.{in_drawn_range, refused, drawn_answer};
+ghost use Rattle.std.specs.Prelude.{◌≡◌};
+ghost use Rattle.refusal.specs.Refusal.{Answers};
+ghost use Rattle.law.specs.Law.{law_of};
+ghost use Rattle.drawn.specs.Drawn.{in_drawn_range, point_at, drawn_refusal};
 ghost use Rattle.drawn.specs.Pieces.{evaluated, below, down, stretched_piece, compressed_piece, piece_at};
 
-use law::Law;
+use law::{Law, Lawful};
+use refusal::Refusal;
 use section::Section;
 
 // A piece of the law. Its numbers are whole. A ramp goes from (e0, s0) to (e1, s1); a parabola starts at zero and reaches its peak at its strain.
@@ -22,13 +24,6 @@ pub enum Piece {
 pub struct Point {
     pub strain: f64,
     pub stress: f64,
-}
-
-#[repr(C)]
-#[derive(Clone, Copy)]
-pub struct Drawn {
-    pub refusal: u32,
-    pub point: Point,
 }
 
 impl Piece {
@@ -51,9 +46,12 @@ fn below(n: u32) -> f64
     0.0 - n as f64
 }
 
-fn down(ea: u32, sa: u32, eb: u32, sb: u32) -> Piece
-    ensures { result ≡ down ea sa eb sb }
+// A line in tension, between two pairs of a strain and its stress.
+fn down(from: (u32, u32), to: (u32, u32)) -> Piece
+    ensures { result ≡ down from.0 from.1 to.0 to.1 }
 {
+    let (ea, sa) = from;
+    let (eb, sb) = to;
     Piece::Ramp {
         e0: below(eb),
         e1: below(ea),
@@ -62,83 +60,67 @@ fn down(ea: u32, sa: u32, eb: u32, sb: u32) -> Piece
     }
 }
 
+#[tactic(auto, using(crate::proofs::Literals::literal_0), unfolding(crate::specs::Pieces::stretched_piece))]
 fn stretched_piece(l: Law, p: u32) -> Piece
     ensures { result ≡ stretched_piece l p }
 {
     if p <= l.e1 {
-        return down(0, 0, l.e1, l.s1);
+        down((0, 0), (l.e1, l.s1))
+    } else if p <= l.e2 {
+        down((l.e1, l.s1), (l.e2, l.s2))
+    } else if p <= l.e3 {
+        down((l.e2, l.s2), (l.e3, l.s3))
+    } else {
+        Piece::Flat(0.0)
     }
-    if p <= l.e2 {
-        return down(l.e1, l.s1, l.e2, l.s2);
-    }
-    if p <= l.e3 {
-        return down(l.e2, l.s2, l.e3, l.s3);
-    }
-    Piece::Flat(0.0)
 }
 
+#[tactic(auto, using(crate::proofs::Literals::literal_2000), unfolding(crate::specs::Pieces::compressed_piece))]
 fn compressed_piece(l: Law, p: u32) -> Piece
     ensures { result ≡ compressed_piece l p }
 {
     let fcd = l.fcd as f64;
     if p <= 2000 {
-        return Piece::Parabola {
+        Piece::Parabola {
             peak: fcd,
             strain: 2000.0,
-        };
+        }
+    } else {
+        Piece::Flat(fcd)
     }
-    Piece::Flat(fcd)
 }
 
+#[tactic(auto, unfolding(crate::specs::Pieces::piece_at))]
 fn piece_at(l: Law, strain: i32) -> Piece
-    requires { nat_abs strain < 2 ^ 31 }
     ensures { result ≡ piece_at l strain }
 {
+    let size = strain.unsigned_abs();
     if strain < 0 {
-        return stretched_piece(l, (-strain) as u32);
+        stretched_piece(l, size)
+    } else {
+        compressed_piece(l, size)
     }
-    compressed_piece(l, strain as u32)
 }
 
-fn drawable(l: Law, strain: i32) -> bool
-    requires { l.drawn ≡ edition.drawn_tension }
+#[tactic(auto, unfolding(law::specs::Edition::edition))]
+fn drawable(of: &Lawful, strain: i32) -> bool
     ensures { result ≡ in_drawn_range strain }
 {
-    (-(l.drawn as i64) <= strain as i64) & (strain <= 3500)
+    (-(of.law.drawn as i64)..=3500).contains(&(strain as i64))
 }
 
-impl Drawn {
-    // A refusal's number beside a point of plus zeros.
-    pub fn refused(number: u32) -> Drawn
-        ensures { result ≡ refused number }
-    {
-        Drawn {
-            refusal: number,
-            point: Point {
-                strain: 0.0,
-                stress: 0.0,
-            },
-        }
-    }
-}
-
-// The point of a section's law at a whole strain; or 7 to 13 with 20, then 18, and a point of plus zeros.
-pub fn draw(section: Section, strain: i32) -> Drawn
-    ensures { result ≡ drawn_answer section strain }
+// The point of a section's law at a whole strain; refused by 7 to 13 with 20, then by 18.
+#[tactic(auto, unfolding(crate::specs::Drawn::drawn_refusal))]
+pub fn draw(section: Section, strain: i32) -> Result<Point, Refusal>
+    ensures { Answers (drawn_refusal section strain) (point_at (law_of section) strain) result }
 {
-    let answer = Law::of(section);
-    if answer.refusal != 0 {
-        return Drawn::refused(answer.refusal);
-    }
-    if !drawable(answer.law, strain) {
-        return Drawn::refused(18);
+    let of = Lawful::of(section)?;
+    if !drawable(&of, strain) {
+        return Err(Refusal::OffRange);
     }
     let e = strain as f64;
-    Drawn {
-        refusal: 0,
-        point: Point {
-            strain: e,
-            stress: piece_at(answer.law, strain).at(e),
-        },
-    }
+    Ok(Point {
+        strain: e,
+        stress: piece_at(of.law, strain).at(e),
+    })
 }

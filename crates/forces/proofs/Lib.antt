@@ -1,7 +1,7 @@
 pub mod Strains
 pub mod Strips
 pub mod Bars
-pub mod Both
+pub mod Summed
 pub mod Answers
 pub mod Rounded
 pub mod Common

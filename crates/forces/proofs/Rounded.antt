@@ -10,7 +10,8 @@ use lib.Signed.{◌≤ℤ◌, ◌<ℤ◌}
 use borrow.Author.Tests.{ltb-true}
 use Rattle.arith.specs.Sums.{sum_n, sum_z}
 use Rattle.arith.proofs.Signed.{up, dn, same, up_scale, dn_scale, mul_neg, lever_most}
-use Rattle.arith.proofs.Rounding.{Within, within_exact, within_floor, within_neg, within_add, within_scale, within_wider, within_above, within_below, within_sum}
+use Rattle.arith.proofs.Rounding.{Within, within_exact, within_floor, within_neg, within_add, within_scale, within_sum}
+use Rattle.arith.proofs.Rounding.{within_wider, within_above, within_below}
 use Rattle.section.specs.declared.Section.{Section}
 use Rattle.section.specs.Accepted.{Accepted}
 use Rattle.section.specs.Has.{width_at, depth_at, area_at, load_of}
@@ -37,13 +38,16 @@ size_within C d a n some proper is =
     let all : d * up n ≡ C * a = omega (arith, ap up is, up_scale d n) in
     let none : dn n ≡ 0 = none_left d (dn n) proper (omega (arith, ap dn is, dn_scale d n)) in
     let low : d * (C * (a / d)) ≤ d * up n = omega (arith, all, NatL.mul-le-mul_left C (NatL.div-mul-le_self a d)) in
-    let high : d * up n < d * (C * (a / d) + C) = omega (arith, all, NatL.mul-le-mul_left C (NatL.lt-div-mul-add {a = a} proper), NatL.mul-suc C a) in
-    rw (same n (pos (up n)) (omega arith)) (within_floor C (up n) (a / d) (NatL.le_of_mul-le-mul_left low proper) (NatL.lt_of_mul-lt-mul_left d high))
+    let high : d * up n < d * (C * (a / d) + C) =
+    omega (arith, all, NatL.mul-le-mul_left C (NatL.lt-div-mul-add {a = a} proper), NatL.mul-suc C a) in
+    rw (same n (pos (up n)) (omega arith))
+    (within_floor C (up n) (a / d) (NatL.le_of_mul-le-mul_left low proper) (NatL.lt_of_mul-lt-mul_left d high))
 
 signed_within : (C d a : ℕ) (pulls : Bool) (n : ℤ) → 0 < C → 0 < d → pos d *ℤ n ≡ pos C *ℤ signed pulls a → Within C n (signed pulls (a / d)) 1
 signed_within C d a false n some proper is = size_within C d a n some proper is
 signed_within C d a true n some proper is =
-    let back : pos d *ℤ neg_ℤ n ≡ pos C *ℤ pos a = mul_neg (pos d) n ∙ ap neg_ℤ is ∙ ap neg_ℤ (mul_neg (pos C) (pos a)) ∙ neg_ℤ-neg_ℤ (pos C *ℤ pos a) in
+    let back : pos d *ℤ neg_ℤ n ≡ pos C *ℤ pos a =
+    mul_neg (pos d) n ∙ ap neg_ℤ is ∙ ap neg_ℤ (mul_neg (pos C) (pos a)) ∙ neg_ℤ-neg_ℤ (pos C *ℤ pos a) in
     rw (neg_ℤ-neg_ℤ n) at (within_neg (size_within C d a (neg_ℤ n) some proper back))
 
 stress_within : (C : ℕ) (t : Stress) (n : ℤ) → 0 < C → 0 < t.den → Over C n t → Within C n (rounded t) 1
@@ -61,10 +65,15 @@ module _ {C : ℕ} (some : 0 < C) (n : ℕ) (t : ℕ → Stress) (e : ℕ → �
   moments_within :
       (H : ℕ) (place : ℕ → ℕ)
       → ((i : ℕ) → i < n → place i ≤ 2 * H)
-      → Within C (sum_z n (λ i. (pos H -ℤ pos (place i)) *ℤ (pos (w i) *ℤ e i))) (sum_z n (λ i. (pos H -ℤ pos (place i)) *ℤ (pos (w i) *ℤ rounded (t i)))) (sum_n n w * H)
+      → Within C
+      (sum_z n (λ i. (pos H -ℤ pos (place i)) *ℤ (pos (w i) *ℤ e i)))
+      (sum_z n (λ i. (pos H -ℤ pos (place i)) *ℤ (pos (w i) *ℤ rounded (t i))))
+      (sum_n n w * H)
   moments_within H place inside =
       within_sum n C H _ _ w
-      (λ i h. within_wider (within_scale (force_within i h) (pos H -ℤ pos (place i))) some (omega (arith, NatL.mul-le-mul_right (w i) (lever_most H (place i) (inside i h)))))
+      (λ i h.
+      within_wider (within_scale (force_within i h) (pos H -ℤ pos (place i))) some
+      (omega (arith, NatL.mul-le-mul_right (w i) (lever_most H (place i) (inside i h)))))
 
 -- ---- no denominator is 0
 whichever : (t : Bool) (a b : Scale) → (t ≡ true → 0 < a.den) → (t ≡ false → 0 < b.den) → 0 < (cond t a b).den
@@ -123,7 +132,9 @@ module _ {s : Section} (a : Accepted s) {x C : ℕ} (from : 1 ≤ x) (some : 0 <
   unfolding moment moments strip_moment bar_moment strip_force bar_force
   moment_within =
       let strips = moments_within some s.h (strip_stress (law_of s) s x) strip (width_at s) strip_near s.h middle (λ i h. omega arith) in
-      let bars = moments_within some s.count (bar_stress (law_of s) s x) bar (area_at s) bar_near s.h (λ j. 2 * depth_at s j) (λ j h. omega (arith, (a.bars.0.each j h).inside)) in
+      let bars =
+      moments_within some s.count (bar_stress (law_of s) s x) bar (area_at s) bar_near s.h (λ j. 2 * depth_at s j)
+      (λ j h. omega (arith, (a.bars.0.each j h).inside)) in
       within_wider (within_add strips bars) some (omega arith)
 
   -- the rounded sums lie within one kPa times the area of the exact ones, the moments within that times h

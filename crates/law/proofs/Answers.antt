@@ -1,34 +1,37 @@
--- What the answer of `Law::of` tells its callers, and what a section's law does. Assumes nothing.
+-- What `Lawful::of` answers is one value: a section with its law is told by the section. Assumes nothing.
 use mathlib.Core.Path.{◌≡◌, refl, sym, ap, ◌∙◌}
-use mathlib.Core.Bool.{false}
-use lib.Dec.{eqb}
-use borrow.Author.Tests.{ne_eqb}
-use Rattle.arith.proofs.Answers.{bears}
+use mathlib.Core.HLevel.{is_prop→PathP}
+use Rattle.std.proofs.Props.{props}
+use Rattle.std.specs.Prelude.{Result, Ok, Err, IfOk}
+use Rattle.refusal.specs.declared.Refusal.{Refusal}
+use Rattle.refusal.specs.Refusal.{number_of}
+use Rattle.refusal.proofs.Answers.{number_own, one_answer}
 use Rattle.section.specs.declared.Section.{Section}
 use Rattle.section.specs.Accepted.{Accepted}
 use Rattle.section.specs.Refusal.{section_refusal}
-use Rattle.section.proofs.Accepted.{accepted}
-use Rattle.law.specs.declared.LawAnswer.{LawAnswer}
-use Rattle.law.specs.Law.{law_of, refused, law_answer}
+use Rattle.law.specs.declared.Lawful.{Lawful}
+use Rattle.law.specs.Law.{law_of}
 
-answer_refusal : (s : Section) → (law_answer s).refusal ≡ section_refusal s
-unfolding law_answer
-answer_refusal s = bears (λ (a : LawAnswer). a.refusal) (section_refusal s) _ refused refl refl
+one_lawful : (x y : Lawful) → x.section ≡ y.section → x ≡ y
+one_lawful x y e =
+    let l : x.law ≡ y.law = x.is ∙ ap law_of e ∙ sym y.is in
+    λ i. record {
+      section = e i;
+      law = l i;
+      accepted = is_prop→PathP (λ j. Accepted (e j)) (λ j. hlevel props) x.accepted y.accepted i;
+      is = is_prop→PathP (λ j. l j ≡ law_of (e j)) (λ j. hlevel props) x.is y.is i;
+    }
 
-answer_law : (s : Section) → section_refusal s ≡ 0 → (law_answer s).law ≡ law_of s
-unfolding law_answer
-answer_law s e = rw e
-
-module _ (s : Section) {a : LawAnswer} (is : a ≡ law_answer s) where
-  pub number : a.refusal ≡ section_refusal s
-  number = ap (λ (x : LawAnswer). x.refusal) is ∙ answer_refusal s
-
-  pub some_refusal : (a.refusal ≡ 0 → ⊥) → eqb (section_refusal s) 0 ≡ false
-  some_refusal h = ne_eqb (section_refusal s) 0 (λ k. h (number ∙ k))
-
-  pub no_refusal : a.refusal ≡ 0 → section_refusal s ≡ 0
-  no_refusal h = sym number ∙ h
-
-  -- what is known of a section that is not refused
-  pub passes : a.refusal ≡ 0 → Accepted s × (a.law ≡ law_of s)
-  passes h = (accepted s (no_refusal h), ap (λ (x : LawAnswer). x.law) is ∙ answer_law s (no_refusal h))
+-- so what it answers is `Answers` of one value, and there is one answer
+pub one_lawful_answer :
+    (s : Section) {r q : Result Lawful Refusal}
+    → (number_of r ≡ section_refusal s) → IfOk r (λ x. x.section ≡ s)
+    → (number_of q ≡ section_refusal s) → IfOk q (λ x. x.section ≡ s)
+    → r ≡ q
+one_lawful_answer s {r = Ok x} {q} h is k same = one_answer (record { number = h; value = refl }) (record { number = k; value = weaker q same })
+  where
+    weaker : (q : Result Lawful Refusal) → IfOk q (λ y. y.section ≡ s) → IfOk q (λ y. y ≡ x)
+    weaker (Ok y) e = one_lawful y x (e ∙ sym is)
+    weaker (Err e) u = tt
+one_lawful_answer s {r = Err e} {q = Ok y} h is k same = sym (one_answer (record { number = k; value = refl }) (record { number = h; value = tt }))
+one_lawful_answer s {r = Err e} {q = Err f} h is k same = ap (λ v. Err v) (number_own e f (h ∙ sym k))

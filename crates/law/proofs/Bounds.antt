@@ -43,8 +43,9 @@ unfolding size
 parabola_most fcd p q h =
     let up : 4000 * q - p ≡ 2000 * q + (2000 * q - p) = omega arith in
     let all : 2000 * q * (2000 * q) ≡ 4000000 * q * q = NatL.mul-mul-mul_comm 2000 q 2000 q ∙ sym (NatL.mul_assoc 4000000 q q) in
+    let under = under_square p (2000 * q - p) (2000 * q) (omega arith) in
     NatL.div-le_of_le-mul (4000000 * q * q)
-    (rw (up, NatL.mul_assoc fcd p (2000 * q + (2000 * q - p)), NatL.mul_comm (4000000 * q * q) fcd, ← all) (NatL.mul-le-mul_left fcd (under_square p (2000 * q - p) (2000 * q) (omega arith))))
+    (rw (up, NatL.mul_assoc fcd p (2000 * q + (2000 * q - p)), NatL.mul_comm (4000000 * q * q) fcd, ← all) (NatL.mul-le-mul_left fcd under))
 
 -- ---- materials
 compressed_most : (l : Law) (p q : ℕ) → size (compressed l p q) ≤ l.fcd

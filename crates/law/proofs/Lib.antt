@@ -1,6 +1,6 @@
 pub mod Ranges
-pub mod Answers
 pub mod Sizes
 pub mod Bounds
 pub mod Continuous
 pub mod Sides
+pub mod Answers

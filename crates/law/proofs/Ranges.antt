@@ -22,7 +22,11 @@ use Rattle.law.specs.Ranges.{LawIn}
 pub column_in : {s : Section} → Accepted s → column s.fck < 7
 column_in a = omega (arith, a.concrete.0.1)
 
-row : (c : List ℕ) (low high n : ℕ) → all_below 7 (λ i. leb low (get_or c i 0) && leb (get_or c i 0) high) ≡ true → n < 7 → (low ≤ get_or c n 0) × (get_or c n 0 ≤ high)
+row :
+    (c : List ℕ) (low high n : ℕ)
+    → all_below 7 (λ i. leb low (get_or c i 0) && leb (get_or c i 0) high) ≡ true
+    → n < 7
+    → (low ≤ get_or c n 0) × (get_or c n 0 ≤ high)
 row c low high n e h =
     let k = both (leb low (get_or c n 0)) (leb (get_or c n 0) high) (all_below_is 7 (λ i. leb low (get_or c i 0) && leb (get_or c i 0) high) e n h) in
     (leb-true _ _ k.0, leb-true _ _ k.1)
@@ -57,6 +61,13 @@ module _ {s : Section} (a : Accepted s) where
   unfolding effective_depth limit_depth
   depth_most = by_bars (λ d e. d ≤ e) s.count s.h (steel_moment s / steel_area s) (depth_at s (s.count - 1)) (omega arith) (centroid_most a)
 
+  -- the centroid as the code has it
+  pub centroid_in : (s.count ≡ 0 → ⊥) → steel_moment s / steel_area s ≤ 1000
+  centroid_in h =
+      let bars = NatL.pos_of_ne-zero h in
+      let deepest = a.bars.0.each (s.count - 1) (omega (arith, bars)) in
+      omega (arith, centroid_most a bars, deepest.inside, a.sizes.1.1)
+
   pub depth_in : (0 < effective_depth s) × (effective_depth s ≤ 1000)
   depth_in = (omega (arith, depth_below), omega (arith, depth_most, limit_in.1, a.sizes.1.1))
 
@@ -66,7 +77,10 @@ module _ {s : Section} (a : Accepted s) where
   one_depth one = by_bars (λ d e. d ≡ e) s.count s.h (steel_moment s / steel_area s) (depth_at s (s.count - 1)) refl (λ h. centroid_alone a h one)
 
 -- ---- the whole numbers
-pub s1_product : {s : Section} → Accepted s → (25900 * 600 ≤ 7 * flexural s.fck * (1600 - effective_depth s)) × (7 * flexural s.fck * (1600 - effective_depth s) ≤ 47600 * 1600)
+pub s1_product :
+    {s : Section}
+    → Accepted s
+    → let product = 7 * flexural s.fck * (1600 - effective_depth s) in (25900 * 600 ≤ product) × (product ≤ 47600 * 1600)
 s1_product {s} a =
     let f = flexural_in a in
     let d = depth_in a in
@@ -82,7 +96,8 @@ e1_in {s} a =
     let m = modulus_in a in
     let k = s1_in a in
     let p : 0 < modulus s.fck = omega arith in
-    ((NatL.le-div_iff_mul-le p).1 (omega arith), omega (arith, (NatL.div-lt_iff_lt-mul {x = 1000 * s1_of s.fck (effective_depth s)} {y = 263} p).1 (omega arith)))
+    let below = (NatL.div-lt_iff_lt-mul {x = 1000 * s1_of s.fck (effective_depth s)} {y = 263} p).1 (omega arith) in
+    ((NatL.le-div_iff_mul-le p).1 (omega arith), omega (arith, below))
 
 pub law_in : {s : Section} → Accepted s → LawIn (law_of s)
 unfolding law_by edition

@@ -1,11 +1,11 @@
 -- The rounded sizes as the code computes them, without the factors that numerator and denominator share. Assumes nothing.
 use Prim.Native.Nat.{ℕ, zero, suc, ◌+◌, ◌*◌, ◌-◌, ◌/◌, ◌≤◌, ◌<◌}
-use mathlib.Core.Path.{◌≡◌, sym, ap, ◌∙◌}
-use mathlib.Core.Bool.{Bool, true, false, not, ◌||◌, true≢false}
+use mathlib.Core.Path.{◌≡◌, refl, sym, ap, ◌∙◌}
+use mathlib.Core.Bool.{Bool, true, false, cond}
 use native.Mathlib.Nat as NatL
 use native.Mathlib.Omega.{arith}
-use lib.Dec.{ltb, eqb}
-use borrow.Author.Tests.{ltb-true, lt-ltb, le-leb, lt-leb, eqb-true, eqb-false}
+use lib.Dec.{ltb}
+use borrow.Author.Tests.{ltb-true, lt-ltb, le-leb, lt-leb}
 use Rattle.arith.proofs.Tests.{both}
 use Rattle.section.specs.declared.Section.{Section}
 use Rattle.section.specs.Accepted.{Accepted}
@@ -47,15 +47,18 @@ small_is l n =
       lt-ltb l.e3 65536 n.e3,
     )
 
--- the first test of a size passes over such a law, and over no strain
-pub idle : (l : Law) (t : Stress) (r : Bool) (p : ℕ) → r ≡ small l → not r || eqb p 0 ≡ true → (p ≡ 0 → size t ≡ 0) → 0 ≡ size_in l t
+-- there is no size of a law whose numbers are not, and none without stress
+pub unsized : (l : Law) (t : Stress) → small l ≡ false → size_in l t ≡ 0
 unfolding size_in
-idle l t true p k e z = rw (sym k) (sym (z (eqb-true p 0 e)))
-idle l t false p k e z = rw (sym k)
+unsized l t k = rw k
 
-pub busy : (l : Law) (r : Bool) (p : ℕ) → r ≡ small l → not r || eqb p 0 ≡ false → (small l ≡ true) × (0 < p)
-busy l true p k e = (sym k, NatL.pos_of_ne-zero (eqb-false p 0 e))
-busy l false p k e = absurd (true≢false e)
+pub sized_none : (l : Law) (t : Stress) → size t ≡ 0 → size_in l t ≡ 0
+unfolding size_in
+sized_none l t z = pick (small l)
+  where
+    pick : (r : Bool) → cond r (size t) 0 ≡ 0
+    pick true = z
+    pick false = refl
 
 pub sized : (l : Law) (t : Stress) (n : ℕ) → small l ≡ true → n ≡ size t → n ≡ size_in l t
 unfolding size_in
@@ -139,6 +142,15 @@ module _ (l : Law) (t q : ℕ) where
 pub divides : (a b q : ℕ) → 0 < a → a ≤ b * q → 0 < q
 divides a b zero h k = absurd (omega arith)
 divides a b (suc q) h k = omega arith
+
+-- ---- what each function's goals want
+pub ruleset in_compression = (compressed_level, compressed_rises)
+
+pub ruleset in_tension = (stretched_first, stretched_second, stretched_third, stretched_beyond)
+
+pub ruleset of_concrete = (smalls, unsized, sized_none, sized, concrete_none)
+
+pub ruleset of_bars = (bar_none, bar_yields, bar_elastic, divides)
 
 -- ---- every accepted section's law is small
 pub law_small : {s : Section} → Accepted s → Small (law_of s)

@@ -1,12 +1,9 @@
 -- Document 01, 'Stress at a strain': the whole numbers of a section's law. Stress in kPa, strain in millionths, each number rounded down.
 use Rattle.std.specs.Prelude.{ℕ, ◌+◌, ◌*◌, ◌-◌, ◌/◌, cond, [], ◌∷◌, eqb, get_or}
-use Rattle.arith.specs.Answers.{unless_refused}
 use Rattle.section.specs.declared.Section.{Section}
 use Rattle.section.specs.Section.{layer_at}
 use Rattle.section.specs.Has.{steel_area, steel_moment}
-use Rattle.section.specs.Refusal.{section_refusal}
 use Rattle.law.specs.declared.Law.{Law}
-use Rattle.law.specs.declared.LawAnswer.{LawAnswer}
 use Rattle.law.specs.Edition.{edition}
 
 -- ---- Table 1 of document 002, by fck: 20, 25, 30, 35, 40, 45, 50
@@ -62,15 +59,3 @@ law_with d s = law_by s.fck d (limit_depth s) s.fyk s.feq2 s.feq3
 
 abbrev pub law_of : Section → Law
 law_of s = law_with (effective_depth s) s
-
-abbrev pub answered : Law → LawAnswer
-answered law = record { refusal = 0; law = law }
-
-abbrev pub no_law : Law
-no_law = record { fcd = 0; s1 = 0; e1 = 0; e2 = 0; s2 = 0; s3 = 0; e3 = 0; fyd = 0; strain = 0; limit = 0; ratio = 0; d = 0; drawn = 0 }
-
-abbrev pub refused : ℕ → LawAnswer
-refused number = record { refusal = number; law = no_law }
-
-unfoldable pub law_answer : Section → LawAnswer
-law_answer s = unless_refused (section_refusal s) (answered (law_of s)) refused

@@ -2,126 +2,123 @@
 #![tactic(auto)]
 
 ghost use Rattle.std.specs.Prelude.{◌≡◌, length};
-ghost use Rattle.class.specs.Class.{class_answer};
-ghost use Rattle.strength.specs.Strength.{strength_answer};
-ghost use Rattle.book.specs.Book.{book_answer, record_answer};
-ghost use Rattle.writer.specs.Written.{write_answer, book_after, add_answer, record_after};
-ghost use Rattle.panel.specs.Face.{drawn_of, imbalance_of, moment_of, list_of, row_of, first_depth_of, shear_of};
+ghost use Rattle.writer.specs.Written.{book_after, record_after};
+ghost use Rattle.panel.specs.Face.{book_answer, record_answer, write_answer, add_answer, class_answer, strength_answer, drawn_of, imbalance_of, moment_of, list_of, row_of, first_depth_of, shear_of};
 
-use book::{BookAnswer, RecordAnswer};
-use class::ClassAnswer;
-use depths::{FirstDepth, Listing};
-use drawn::Drawn;
-use section::Amount;
-use strength::StrengthAnswer;
-use writer::Written;
+mod answers;
+
+pub use answers::{
+    Amount, BookAnswer, ClassAnswer, Drawn, FirstDepth, Listing, RecordAnswer, StrengthAnswer,
+    Written,
+};
+use depths::Unlisted;
 
 // The number of records of a book; or 1 to 4, and zero.
+#[tactic(auto, unfolding(crate::specs::Face::book_answer))]
 pub fn fw_book(bytes: &[u8]) -> BookAnswer
     ensures { result ≡ book_answer bytes.now }
 {
-    book::book(bytes)
+    book::book(bytes).into()
 }
 
 // Where a record of a book is, and its bytes; or 1 to 5, and zeros.
+#[tactic(auto, unfolding(crate::specs::Face::record_answer))]
 pub fn fw_record(bytes: &[u8], number: u32) -> RecordAnswer
     ensures { result ≡ record_answer bytes.now number }
 {
-    book::record_place(bytes, number)
+    book::record_place(bytes, number).into()
 }
 
 // A book of the sections of a string of records, into lent bytes; or 6, 7 to 13 with 20 of the first that is refused, or 19, and the bytes as they were.
+#[tactic(auto, unfolding(crate::specs::Face::write_answer))]
 pub fn fw_write_book(records: &[u8], book: &mut [u8]) -> Written
     ensures { (result ≡ write_answer records.now (length book.old)) × (book.new ≡ book_after records.now book.old) }
 {
-    writer::write_book(records, book)
+    writer::write_book(records, book).into()
 }
 
 // A record with one layer more, into lent bytes; or 6, 12 or 19, and the bytes as they were.
+#[tactic(auto, unfolding(crate::specs::Face::add_answer))]
 pub fn fw_add_layer(part: &[u8], depth: u16, area: u16, out: &mut [u8]) -> Written
     ensures { (result ≡ add_answer part.now (record { depth = depth; area = area }) (length out.old)) × (out.new ≡ record_after part.now (record { depth = depth; area = area }) out.old) }
 {
-    writer::add_layer(part, depth, area, out)
+    writer::add_layer(part, depth, area, out).into()
 }
 
 // The class of a fibre concrete; or 17 and zeros.
+#[tactic(auto, unfolding(crate::specs::Face::class_answer))]
 pub fn fw_class(fr1: u16, fr3: u16) -> ClassAnswer
     ensures { result ≡ class_answer fr1 fr3 }
 {
-    class::class(fr1, fr3)
+    class::class(fr1, fr3).into()
 }
 
 // The characteristic strength of a series of beam results; or 21 to 23, and zeros.
+#[tactic(auto, unfolding(crate::specs::Face::strength_answer))]
 pub fn fw_strength(results: &[u32]) -> StrengthAnswer
     ensures { result ≡ strength_answer results.now }
 {
-    strength::strength(results)
+    strength::strength(results).into()
 }
 
 // The point of a record's law at a whole strain; or 6, 7 to 13 with 20, or 18, and a point of plus zeros.
+#[tactic(auto, unfolding(crate::specs::Face::drawn_of))]
 pub fn fw_draw(part: &[u8], strain: i32) -> Drawn
     ensures { result ≡ drawn_of part.now strain }
 {
-    let answer = record::section_of(part);
-    if answer.refusal != 0 {
-        return Drawn::refused(answer.refusal);
-    }
-    drawn::draw(answer.section, strain)
+    record::section_of(part)
+        .and_then(|section| drawn::draw(section, strain))
+        .into()
 }
 
 // The imbalance of a record's section with the neutral axis at depth x, in mN; or 6, 7 to 13 with 20, or 18, and zero.
+#[tactic(auto, unfolding(crate::specs::Face::imbalance_of))]
 pub fn fw_imbalance(part: &[u8], x: u32) -> Amount
     ensures { result ≡ imbalance_of part.now x }
 {
-    let answer = record::section_of(part);
-    if answer.refusal != 0 {
-        return Amount::refused(answer.refusal);
-    }
-    forces::imbalance(answer.section, x)
+    record::section_of(part)
+        .and_then(|section| forces::imbalance(section, x))
+        .into()
 }
 
 // Its moment about mid-height, in mN half-mm; refused likewise.
+#[tactic(auto, unfolding(crate::specs::Face::moment_of))]
 pub fn fw_moment(part: &[u8], x: u32) -> Amount
     ensures { result ≡ moment_of part.now x }
 {
-    let answer = record::section_of(part);
-    if answer.refusal != 0 {
-        return Amount::refused(answer.refusal);
-    }
-    forces::moment(answer.section, x)
+    record::section_of(part)
+        .and_then(|section| forces::moment(section, x))
+        .into()
 }
 
 // Every depth where the forces of a record's section balance, into a lent row, and the work that it took; or 6, 7 to 13 with 20, 14 or
 // 15, and the row as it was.
+#[tactic(auto, unfolding(crate::specs::Face::list_of, crate::specs::Face::row_of))]
 pub fn fw_depths(part: &[u8], row: &mut [i64]) -> Listing
     ensures { (result ≡ list_of part.now (length row.old)) × (row.new ≡ row_of part.now row.old) }
 {
-    let answer = record::section_of(part);
-    if answer.refusal != 0 {
-        return Listing::refused(answer.refusal);
+    match record::section_of(part) {
+        Ok(section) => depths::depths(section, row).into(),
+        Err(refusal) => Err(Unlisted::from(refusal)).into(),
     }
-    depths::depths(answer.section, row)
 }
 
 // The first listed depth of a record's section alone, its kind, its moment, and the work that it took; or 6, 7 to 13 with 20, or 14, and
 // zeros but for the work of 14.
+#[tactic(auto, unfolding(crate::specs::Face::first_depth_of))]
 pub fn fw_first(part: &[u8]) -> FirstDepth
     ensures { result ≡ first_depth_of part.now }
 {
-    let answer = record::section_of(part);
-    if answer.refusal != 0 {
-        return FirstDepth::refused(answer.refusal);
-    }
-    depths::first(answer.section)
+    record::section_of(part)
+        .map_err(Unlisted::from)
+        .and_then(depths::first)
+        .into()
 }
 
 // The shear that a record's section resists, in mN; or 6, 7 to 13 with 20, or 16, and zero.
+#[tactic(auto, unfolding(crate::specs::Face::shear_of))]
 pub fn fw_shear(part: &[u8]) -> Amount
     ensures { result ≡ shear_of part.now }
 {
-    let answer = record::section_of(part);
-    if answer.refusal != 0 {
-        return Amount::refused(answer.refusal);
-    }
-    shear::shear(answer.section)
+    record::section_of(part).and_then(shear::shear).into()
 }

@@ -3,19 +3,13 @@
 #![tactic(auto)]
 
 ghost use Rattle.std.specs.Prelude.{◌≡◌, length};
-ghost use Rattle.class.specs.Class.{class_answer};
-ghost use Rattle.strength.specs.Strength.{strength_answer};
-ghost use Rattle.book.specs.Book.{book_answer, record_answer};
-ghost use Rattle.writer.specs.Written.{write_answer, book_after, add_answer, record_after};
-ghost use Rattle.panel.specs.Face.{drawn_of, imbalance_of, moment_of, list_of, row_of, first_depth_of, shear_of};
+ghost use Rattle.writer.specs.Written.{book_after, record_after};
+ghost use Rattle.panel.specs.Face.{book_answer, record_answer, write_answer, add_answer, class_answer, strength_answer, drawn_of, imbalance_of, moment_of, list_of, row_of, first_depth_of, shear_of};
 
-use book::{BookAnswer, RecordAnswer};
-use class::ClassAnswer;
-use depths::{FirstDepth, Listing};
-use drawn::Drawn;
-use section::Amount;
-use strength::StrengthAnswer;
-use writer::Written;
+use panel::{
+    Amount, BookAnswer, ClassAnswer, Drawn, FirstDepth, Listing, RecordAnswer, StrengthAnswer,
+    Written,
+};
 
 // The number of records of a book; or 1 to 4, and zero.
 #[unsafe(no_mangle)]

@@ -8,26 +8,26 @@ use native.Mathlib.Nat.{eq-zero-or-pos}
 use native.Mathlib.Omega.{arith}
 use lib.Dec.{eqb}
 use lib.IntN.{ℤ, pos, negsuc, nat_abs}
-use lib.ListN.{length, get_or, take, drop, replicate, drop_of_length-le, length-append, get_or-append}
-use lib.Seq.{take_all, take-append-le, length-take-le, get_or_at, get_or-take, get_or-append-add, drop-cons}
+use lib.ListN.{length, get_or, take, drop, drop_of_length-le, get_or-append}
+use lib.Seq.{take_all, length-take-le, get_or_at, get_or-take, get_or-append-add, drop-cons}
 use lib.Signed.{mag}
-use borrow.Author.Tests.{lt-ltb, le-ltb, le-leb, eq-eqb, ne_eqb}
+use borrow.Author.Tests.{lt-ltb, le-ltb, eq-eqb, ne_eqb}
 use Rattle.arith.specs.Joined.{joined}
 use Rattle.arith.proofs.Tests.{less_or_not}
-use Rattle.arith.proofs.Joined.{over_length, over_front, joined_alike, joined_length, joined_at}
+use Rattle.arith.proofs.Joined.{joined_alike, joined_next, joined_length, joined_at}
 use Rattle.section.specs.declared.Layer.{Layer}
 use Rattle.section.specs.declared.Section.{Section}
 use Rattle.section.specs.Section.{no_layer, layer_at}
 use Rattle.section.specs.Added.{layer_refusal, with_layer}
 use Rattle.section.proofs.Accepted.{takes}
 use Rattle.section.proofs.Inserted.{added_places, added_past}
-use Rattle.record.specs.declared.RecordBytes.{RecordBytes}
 use Rattle.record.specs.Record.{Bytes, le16_at, le32_at, signed32, layers_end, record_size, layers_at, flange_at, size_at, record_refusal, number_in, layer_in, flange_width, section_in}
 use Rattle.record.specs.Alone.{StandsAlone}
-use Rattle.record.specs.Filed.{bytes16, unsigned32, places_of, numbers_of, number_bytes, filed, but, as_written, cleared_at, as_read, filed_answer}
-use Rattle.record.proofs.Length.{no_flange, some_flange, flange_size_is, halves}
+use Rattle.record.specs.Filed.{bytes16, unsigned32, places_of, numbers_of, number_bytes, filed, but, as_written, cleared_at, as_read}
+use Rattle.record.proofs.Length.{no_flange, some_flange, halves}
 use Rattle.record.proofs.Alone.{record_stands}
 use Rattle.record.proofs.Places.{layer_there, layer_past, zero_past_count, width_none, width_filed}
+use Rattle.record.proofs.Put.{numbers_length, head_put, layer_put}
 use Rattle.record.proofs.Placed.{le16_number, taken}
 
 -- ---- the load
@@ -82,20 +82,23 @@ module _ (s : Section) where
     pub front_number : (k : ℕ) → k < 12 + 2 * s.count → get_or (numbers_of s) k 0 ≡ get_or (places_of s) k 0
     front_number k h = get_or-append front _ 0 k (omega (arith, front_length)) ∙ get_or-take (layers_end s.count / 2) (places_of s) k 0 (omega arith)
 
-    -- of all places, with the flange set behind the layers
-    pub filed_by :
-        (places all : List ℕ) → places ≡ places_of s ++ (0 ∷ 0 ∷ [])
-        → all ≡ take (layers_end s.count / 2) places ++ (s.bf ∷ 0 ∷ []) ++ drop (layers_end s.count / 2 + 2) places
-        → joined (number_bytes all) (record_size s.count s.hf / 2) ≡ filed s
+    -- in the order of the places, then the flange behind the layers
+    fronts : joined (number_bytes (numbers_of s)) (12 + 2 * s.count) ≡ joined (number_bytes (places_of s)) (12 + 2 * s.count)
+    fronts = joined_alike (number_bytes (numbers_of s)) (number_bytes (places_of s)) (12 + 2 * s.count) (λ k h. ap bytes16 (front_number k h))
+
+    pub filed_flat : s.hf ≡ 0 → joined (number_bytes (places_of s)) (12 + 2 * s.count) ≡ filed s
     unfolding filed
-    filed_by places all p e =
-        joined_alike (number_bytes all) (number_bytes (numbers_of s)) (record_size s.count s.hf / 2)
-        (λ k h.
-        rw (e, p, take-append-le (layers_end s.count / 2) (places_of s) (0 ∷ 0 ∷ []) (omega (arith, places_length)))
-        (ap bytes16 (get_or-append (numbers_of s) _ 0 k (long k h))))
-      where
-        long : (k : ℕ) → k < record_size s.count s.hf / 2 → k < length (numbers_of s)
-        long k h = rw (length-append front (s.bf ∷ 0 ∷ []), front_length) (omega (arith, flange_size_is s.hf))
+    filed_flat none =
+        let e : record_size s.count s.hf / 2 ≡ 12 + 2 * s.count = omega (arith, no_flange s.hf none) in
+        rw (e, fronts)
+
+    pub filed_rib : 0 < s.hf → joined (number_bytes (places_of s)) (12 + 2 * s.count) ++ bytes16 s.bf ++ bytes16 0 ≡ filed s
+    unfolding filed
+    filed_rib some =
+        let n = 12 + 2 * s.count in
+        let f = number_bytes (numbers_of s) in
+        let e : record_size s.count s.hf / 2 ≡ n + 1 + 1 = omega (arith, some_flange s.hf some) in
+        rw (e, joined_next f (n + 1), joined_next f n, fronts, behind front s.bf 0 n front_length, behind_next front s.bf 0 n front_length)
 
     place_there : (k : ℕ) → k < 12 + 2 * s.count → le16_at (filed s) (2 * k) ≡ get_or (places_of s) k 0
     place_there k h = number_there k (omega arith) ∙ front_number k h
@@ -177,6 +180,9 @@ module _ (s : Section) where
           layer_filed 7 refl refl,
           filed_layers,
         )
+
+-- what `filed` goes by
+pub ruleset filing = (numbers_length, head_put, layer_put, filed_flat, filed_rib)
 
 -- without a flange no bf is filed
 pub flat_filed : (s : Section) (bf : ℕ) → s.hf ≡ 0 → s.count ≤ 8 → filed (but s bf s.spacing s.layers) ≡ filed s
@@ -290,10 +296,18 @@ module _ (r : List ℕ) (bytes : Bytes r) where
         ∙ take_all (2 * n) r (omega (arith, halves (layers_at r 0) (flange_at r 0), stands.0))
 
 -- ---- zeros past the layer count
-eight : (l : List Layer) → length l ≡ 8 → l ≡ layer_at l 0 ∷ layer_at l 1 ∷ layer_at l 2 ∷ layer_at l 3 ∷ layer_at l 4 ∷ layer_at l 5 ∷ layer_at l 6 ∷ layer_at l 7 ∷ []
+eight :
+    (l : List Layer) → length l ≡ 8
+    → l ≡ layer_at l 0 ∷ layer_at l 1 ∷ layer_at l 2 ∷ layer_at l 3 ∷ layer_at l 4 ∷ layer_at l 5 ∷ layer_at l 6 ∷ layer_at l 7 ∷ []
 eight l e =
-    next 0 (omega arith) (next 1 (omega arith) (next 2 (omega arith) (next 3 (omega arith) (next 4 (omega arith) (next 5 (omega arith) (next 6 (omega arith) (next 7 (omega arith)
-    (drop_of_length-le l {i = 8} (omega arith)))))))))
+    next 0 (omega arith)
+    (next 1 (omega arith)
+    (next 2 (omega arith)
+    (next 3 (omega arith)
+    (next 4 (omega arith)
+    (next 5 (omega arith)
+    (next 6 (omega arith)
+    (next 7 (omega arith) (drop_of_length-le l {i = 8} (omega arith)))))))))
   where
     next : (j : ℕ) → j < 8 → {t : List Layer} → drop (suc j) l ≡ t → drop j l ≡ layer_at l j ∷ t
     next j h {t} q = drop-cons l j no_layer (omega arith) ∙ ap (λ (k : List Layer). layer_at l j ∷ k) q
@@ -319,19 +333,3 @@ unfolding section_in with_layer
 added_cleared r l fits =
     let s = section_in r in
     cleared (with_layer s l) (added_places s l (takes s l fits).room) (λ j h. added_past s l j h ∙ zero_past_count r j (omega arith)) (width_none r)
-
--- ---- the record in the answer of `filed`
-pub record Front (s : Section) (x : RecordBytes) : Type 0 where
-  pub len : x.len ≡ record_size s.count s.hf
-  pub inside : x.len ≤ length x.bytes
-  pub bytes : take x.len x.bytes ≡ filed s
-
-pub filed_front : (s : Section) {x : RecordBytes} → x ≡ filed_answer s → s.count ≤ 8 → Front s x
-unfolding filed_answer
-filed_front s is h =
-    rw (is, le-leb s.count 8 h)
-    (record {
-      len = refl;
-      inside = rw (over_length (filed s) (replicate 60 0) (omega (arith, filed_length s, flange_size_is s.hf))) (omega (arith, flange_size_is s.hf));
-      bytes = rw (← (filed_length s)) (over_front (filed s) (replicate 60 0));
-    })

@@ -2,6 +2,8 @@ pub mod Past
 pub mod Length
 pub mod Alone
 pub mod Places
-pub mod Answers
+pub mod Made
+pub mod Load
+pub mod Put
 pub mod Placed
 pub mod Inverse

@@ -60,4 +60,10 @@ pub taken32 : (r : List ℕ) (at n : ℕ) → at + 4 * n ≤ length r → Bytes 
 unfolding joined
 taken32 r at zero h b = refl
 taken32 r at (suc n) h b =
-    rw (taken32 r at n (omega arith) b, ← (four_there r (at + 4 * n) (omega arith) b), ← (drop-drop (4 * n) at r), mul-suc 4 n) (sym (take-add (4 * n) 4 (drop at r)))
+    rw (
+      taken32 r at n (omega arith) b,
+      ← (four_there r (at + 4 * n) (omega arith) b),
+      ← (drop-drop (4 * n) at r),
+      mul-suc 4 n,
+    )
+    (sym (take-add (4 * n) 4 (drop at r)))

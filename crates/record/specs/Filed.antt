@@ -1,13 +1,11 @@
 -- Document 01, 'The section book': a section's record, byte by byte. What it reads as is in Record; that each is the other's inverse is proved.
-use Rattle.std.specs.Prelude.{ℕ, ◌-◌, ◌/◌, ◌%◌, cond, List, [], ◌∷◌, ◌++◌, ltb, leb, eqb, ℤ, nat_abs, get_or, take, replicate}
+use Rattle.std.specs.Prelude.{ℕ, ◌-◌, ◌/◌, ◌%◌, cond, List, [], ◌∷◌, ◌++◌, ltb, leb, eqb, ℤ, nat_abs, get_or, take}
 use Rattle.std.specs.Int.Signed.{non_neg}
-use Rattle.arith.specs.Answers.{unless_refused}
-use Rattle.arith.specs.Joined.{joined, over}
+use Rattle.arith.specs.Joined.{joined}
 use Rattle.arith.specs.Lines.{line}
 use Rattle.section.specs.declared.Layer.{Layer}
 use Rattle.section.specs.declared.Section.{Section}
 use Rattle.section.specs.Section.{no_layer, layer_at}
-use Rattle.record.specs.declared.RecordBytes.{RecordBytes}
 use Rattle.record.specs.Record.{layers_end, record_size}
 
 -- a number of 16 bits in bytes, the lower first, and one of 32
@@ -75,15 +73,6 @@ as_read s =
     but s (cond (eqb s.hf 0) 0 s.bf) s.spacing
     (cleared_at s 0 ∷ cleared_at s 1 ∷ cleared_at s 2 ∷ cleared_at s 3 ∷ cleared_at s 4 ∷ cleared_at s 5 ∷ cleared_at s 6 ∷ cleared_at s 7 ∷ [])
 
--- ---- as it is answered: in 60 places, with zeros past the record; more than 8 layers are refused 12
-abbrev pub in_places : List ℕ → List ℕ
-in_places bytes = over bytes (replicate 60 0)
-
-abbrev pub unfiled : ℕ → RecordBytes
-unfiled number = record { refusal = number; len = 0; bytes = replicate 60 0 }
-
+-- more than 8 layers are refused 12
 abbrev pub filed_refusal : Section → ℕ
 filed_refusal s = line (leb s.count 8) 12 0
-
-unfoldable pub filed_answer : Section → RecordBytes
-filed_answer s = unless_refused (filed_refusal s) (record { refusal = 0; len = record_size s.count s.hf; bytes = in_places (filed s) }) unfiled

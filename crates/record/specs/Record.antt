@@ -1,11 +1,9 @@
 -- Document 01, 'The section book': one record, by itself, little-endian. Its flange is of document 02 [4].
-use Rattle.std.specs.Prelude.{ℕ, ◌+◌, ◌*◌, ◌<◌, Bool, cond, ◌&&◌, ◌||◌, List, [], ◌∷◌, ltb, leb, eqb, ℤ, pos, ◌-ℤ◌, length, get_or, replicate}
+use Rattle.std.specs.Prelude.{ℕ, ◌+◌, ◌*◌, ◌<◌, Bool, cond, ◌&&◌, ◌||◌, List, [], ◌∷◌, ltb, leb, eqb, ℤ, pos, ◌-ℤ◌, length, get_or}
 use Rattle.arith.specs.Answers.{unless_refused}
 use Rattle.arith.specs.Lines.{line}
 use Rattle.section.specs.declared.Layer.{Layer}
 use Rattle.section.specs.declared.Section.{Section}
-use Rattle.section.specs.Section.{no_layer}
-use Rattle.record.specs.declared.SectionAnswer.{SectionAnswer}
 
 -- bytes are numbers below 256; in a definition they have no width
 abbrev pub Bytes : List ℕ → Type 0
@@ -82,32 +80,6 @@ section_in r = record {
   layers = layers_in r;
 }
 
-abbrev pub no_section : Section
-no_section = record {
-  b = 0;
-  h = 0;
-  hf = 0;
-  bf = 0;
-  fck = 0;
-  fyk = 0;
-  feq2 = 0;
-  feq3 = 0;
-  load = pos 0;
-  asw = 0;
-  spacing = 0;
-  count = 0;
-  layers = replicate 8 no_layer;
-}
-
 -- of a record that is handed over as bytes: 6 first, then what is answered of its section
 abbrev pub of_record : {X : Type 0} → List ℕ → (Section → X) → (ℕ → X) → X
 of_record r answered refused = unless_refused (record_refusal r) (answered (section_in r)) refused
-
-abbrev pub answered : Section → SectionAnswer
-answered section = record { refusal = 0; section = section }
-
-abbrev pub refused : ℕ → SectionAnswer
-refused number = record { refusal = number; section = no_section }
-
-unfoldable pub section_answer : List ℕ → SectionAnswer
-section_answer r = of_record r answered refused

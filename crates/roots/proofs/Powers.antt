@@ -1,9 +1,9 @@
 -- Squares and cubes, times a number: they climb, so that there is a largest; and how large they get. Assumes nothing.
 use Prim.Native.Nat.{ℕ, zero, suc, ◌*◌, ◌^◌, ◌≤◌, ◌<◌}
-use mathlib.Core.Path.{◌≡◌}
 use mathlib.Core.Bool.{Bool, true, false}
 use native.Mathlib.Nat as NatL
 use native.Mathlib.Omega.{arith}
+use lib.Pow.{pow_mono}
 use Rattle.arith.proofs.Largest.{Climbs}
 use Rattle.roots.specs.Root.{power, raised}
 
@@ -28,14 +28,9 @@ pub raised_climbs : (cube : Bool) (by : ℕ) → 0 < by → Climbs (raised cube 
 raised_climbs cube by h =
     record { rises = λ j k l. NatL.mul-le-mul_right by (rises cube j k l); above = λ k. scaled by h (above cube k) }
 
-pub power_none : (cube : Bool) → power cube 0 ≡ 0
-power_none true = omega arith
-power_none false = omega arith
-
 -- ---- how large they get
-module _ (n : ℕ) (small : n ≤ 2 ^ 21) where
-  pub square_most : n * n ≤ 2 ^ 21 * 2 ^ 21
-  square_most = NatL.mul-le-mul small small
+pub cube_most : (n : ℕ) → n ≤ 2 ^ 21 → n * n * n ≤ 2 ^ 21 * 2 ^ 21 * 2 ^ 21
+cube_most n small = NatL.mul-le-mul (NatL.mul-le-mul small small) small
 
-  pub cube_most : n * n * n ≤ 2 ^ 21 * 2 ^ 21 * 2 ^ 21
-  cube_most = NatL.mul-le-mul square_most small
+pub cube_of_digits : (n digits : ℕ) → digits ≤ 21 → n < 2 ^ digits → n * n * n ≤ 2 ^ 63
+cube_of_digits n digits few h = let end : 2 ^ digits ≤ 2 ^ 21 = pow_mono few in cube_most n (omega arith)

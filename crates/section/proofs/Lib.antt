@@ -1,5 +1,4 @@
 pub mod Layers
-pub mod Carry
 pub mod Rising
 pub mod Accepted
 pub mod Inserted

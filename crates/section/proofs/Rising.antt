@@ -1,19 +1,25 @@
 -- Layers that rise, place by place. Assumes nothing.
 use Prim.Native.Nat.{ℕ, zero, suc, ◌+◌, ◌≤◌, ◌<◌}
-use mathlib.Core.Path.{◌≡◌, refl}
-use mathlib.Core.Bool.{true, false, ◌&&◌}
+use mathlib.Core.Path.{◌≡◌, refl, sym, ◌∙◌}
+use mathlib.Core.Bool.{Bool, true, false, ◌&&◌, false≢true}
 use mathlib.Core.List.{List}
 use mathlib.Core.Logic.{⊎_elim}
 use native.Mathlib.Nat.{eq-or-lt_of_le}
 use native.Mathlib.Numerals.{add-one}
 use native.Mathlib.Omega.{arith}
 use lib.Dec.{ltb, eqb}
-use borrow.Author.Tests.{ltb-true, eqb-false, lt-ltb, ne_eqb}
+use lib.ListN.{length}
+use lib.Seq.{take-length}
+use borrow.Author.Tests.{ltb-true, ltb-false, eqb-false, lt-ltb, ne_eqb}
+use Rattle.std.specs.List.{list_all, IsAllAdjacentAnswer}
+use Rattle.std.proofs.lemmas.List.{get_or_default}
+use Rattle.std.proofs.lemmas.List.Sums.{AllPass-from_list_all, list_all-from_AllPass}
 use Rattle.arith.proofs.Tests.{both, neither}
 use Rattle.section.specs.declared.Layer.{Layer}
-use Rattle.section.specs.Section.{layer_at, layers_from, in_range, rise}
+use Rattle.section.specs.Section.{no_layer, layer_at, layers_from, in_range, rise}
 use Rattle.section.specs.Added.{taken}
 use Rattle.section.specs.Accepted.{LayerIn}
+use Rattle.section.proofs.Layers.{from_is}
 
 pub layer_in_is : (h : ℕ) (l : Layer) → in_range h l ≡ true → LayerIn h l
 layer_in_is h l e =
@@ -76,3 +82,37 @@ module _ (ls : List Layer) (h : ℕ) where
   unfolding taken layers_from
   free d i zero f = refl
   free d i (suc n) f = rw (ne_eqb d (depth i) (f i (omega arith) (omega arith)), free d (suc i) n (λ j k l. f j (omega arith) (omega arith)))
+
+-- ---- as the code tests it: each is in range, and each next one deeper
+same_truth : (a b : Bool) → (a ≡ true → b ≡ true) → (b ≡ true → a ≡ true) → a ≡ b
+same_truth true b f g = sym (f refl)
+same_truth false true f g = g refl
+same_truth false false f g = refl
+
+module _ (h : ℕ) (ks : List Layer) where
+  whole : layers_from ks 0 (length ks) ≡ ks
+  whole = from_is ks 0 (length ks) (omega arith) ∙ take-length ks
+
+  all_in : rise h 0 ks ≡ true → list_all (in_range h) ks ≡ true
+  all_in e =
+      list_all-from_AllPass (in_range h) ks
+      (λ j d q.
+      let here = each ks h 0 0 (length ks) (rw (← whole) at e) j (omega arith) (omega arith) in
+      rw (get_or_default ks j d no_layer q) (in_layer h (layer_at ks j) here))
+
+  pub not_all : list_all (in_range h) ks ≡ false → false ≡ rise h 0 ks
+  not_all e = same_truth _ _ (λ k. absurd (false≢true k)) (λ k. absurd (false≢true (sym e ∙ all_in k)))
+
+  pub rise_is :
+      (sorted : Bool)
+      → IsAllAdjacentAnswer (λ k l b. b ≡ ltb k.depth l.depth) ks sorted → list_all (in_range h) ks ≡ true
+      → sorted ≡ rise h 0 ks
+  rise_is true next p =
+      let each_in : (j : ℕ) → j < 0 + length ks → LayerIn h (layer_at ks j) =
+      λ j q. layer_in_is h (layer_at ks j) (AllPass-from_list_all (in_range h) ks p j no_layer (omega arith)) in
+      sym (rw whole at (rises ks h 0 0 (length ks) each_in (λ j q. ltb-true _ _ (sym (next j no_layer (omega arith)))) (λ q. (each_in 0 (omega arith)).deep)))
+  rise_is false (j, last, above) p =
+      same_truth _ _ (λ k. absurd (false≢true k))
+      (λ e.
+      let less = above_next ks h 0 0 (length ks) (rw (← whole) at e) j (omega arith) (omega arith) in
+      absurd (omega (arith, ltb-false _ _ (sym (above no_layer)))))

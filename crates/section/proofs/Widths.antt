@@ -26,7 +26,11 @@ module _ {s : Section} (a : Accepted s) where
   flange_inside = ⊎_elim (λ h. omega (arith, (a.flange h).0)) (λ h. omega arith) (less_or_not 0 s.hf)
 
   pub width_in : (i : ℕ) → Between s.b 2000 (width_at s i)
-  width_in i = ⊎_elim (λ h. rw (flange_width_is s i h) (a.flange (omega arith)).1) (λ h. rw (web_width s i h) (omega arith, a.sizes.0.1)) (less_or_not i s.hf)
+  width_in i =
+      ⊎_elim
+      (λ h. rw (flange_width_is s i h) (a.flange (omega arith)).1)
+      (λ h. rw (web_width s i h) (omega arith, a.sizes.0.1))
+      (less_or_not i s.hf)
 
   pub area_is : concrete_area s ≡ s.bf * s.hf + s.b * (s.h - s.hf)
   area_is =

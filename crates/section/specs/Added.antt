@@ -3,7 +3,6 @@ use Rattle.std.specs.Prelude.{ℕ, ◌+◌, Bool, false, not, cond, ◌||◌, Li
 use Rattle.arith.specs.Lines.{line}
 use Rattle.section.specs.declared.Layer.{Layer}
 use Rattle.section.specs.declared.Section.{Section}
-use Rattle.section.specs.declared.Added.{Added}
 use Rattle.section.specs.Section.{layers_of, in_range, layers_right}
 
 unfoldable pub taken : ℕ → List Layer → Bool
@@ -41,10 +40,3 @@ with_layer s l = record {
   count = s.count + 1;
   layers = inserted l (layers_of s) ++ drop (s.count + 1) s.layers;
 }
-
--- the new section, or the section as it came beside the refusal
-unfoldable pub added_answer : Section → Layer → Added
-added_answer s l =
-    cond (eqb (layer_refusal s l) 0)
-    (record { refusal = 0; section = with_layer s l })
-    (record { refusal = layer_refusal s l; section = s })

@@ -3,4 +3,3 @@ pub mod Refusal
 pub mod Added
 pub mod Accepted
 pub mod Has
-pub mod Amount

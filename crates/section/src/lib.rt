@@ -1,14 +1,17 @@
-// A section of fibre concrete, what is refused of it, what it has, and a layer added to it (document 01, 'What a section is'; document 02 [4]:
-// its flange).
+// A section of fibre concrete, what is refused of it, what it has, and a layer added to it (document 01, 'What a
+// section is'; document 02 [4]: its flange).
 #![tactic(auto)]
 
-ghost use Rattle.std.specs.Prelude.{◌≡◌, true, cond, ◌&&◌, ◌++◌, ◌+◌, ◌*◌, ◌-◌, ◌≤◌, ◌<◌, ltb, leb, nat_abs, drop};
-ghost use Rattle.arith.specs.Lines.{within};
-ghost use Rattle.section.specs.Section.{layers_of, in_range, layers_right};
-ghost use Rattle.section.specs.Refusal.{flange_right, mid_right, section_refusal};
-ghost use Rattle.section.specs.Added.{taken, layer_refusal, inserted, added_answer};
+ghost use Rattle.std.specs.Prelude.{◌≡◌, true, cond, ◌&&◌, ◌++◌, ◌+◌, ◌*◌, ◌-◌, ◌≤◌, ◌<◌, ltb, leb, take, nat_abs, drop, false, eqb, ◌||◌, MatchResult};
+ghost use Rattle.refusal.specs.Refusal.{number, number_of, Answers};
+ghost use Rattle.arith.specs.Lines.{line, within};
+ghost use Rattle.section.specs.declared.Layer.{Layer};
+ghost use Rattle.section.specs.Section.{layers_of, in_range, rise, layers_right};
+ghost use Rattle.section.specs.Refusal.{in_table, flange_right, mid_right, section_refusal};
+ghost use Rattle.section.specs.Added.{taken, layer_refusal, inserted, with_layer};
 ghost use Rattle.section.specs.Has.{steel_area, steel_moment, last_depth};
-ghost use Rattle.section.specs.Amount.{no_amount};
+
+use refusal::Refusal;
 
 #[derive(Clone, Copy)]
 pub struct Layer {
@@ -16,8 +19,8 @@ pub struct Layer {
     pub area: u16,
 }
 
-// b, h, depths and spacing in mm, areas in mm², fck and fyk in N/mm², feq2 and feq3 in kPa, the load in N. hf and bf are the height and the
-// width of the flange, in mm; hf 0 is none, and bf is then ignored.
+// b, h, depths and spacing in mm, areas in mm², fck and fyk in N/mm², feq2 and feq3 in kPa, the load in N. hf and bf are
+// the height and the width of the flange, in mm; hf 0 is none, and bf is then ignored.
 #[derive(Clone, Copy)]
 pub struct Section {
     pub b: u16,
@@ -31,14 +34,9 @@ pub struct Section {
     pub load: i32,
     pub asw: u16,
     pub spacing: u16,
+    // A section may count more than 8, which 12 refuses: so the count is kept beside the array, and is no invariant.
     pub count: u16,
     pub layers: [Layer; 8],
-}
-
-#[derive(Clone, Copy)]
-pub struct Added {
-    pub refusal: u32,
-    pub section: Section,
 }
 
 // The layers below mid-height as one steel: their area As, and the sum of area times depth.
@@ -48,151 +46,26 @@ pub struct Steel {
     pub moment: u64,
 }
 
-// A force in mN, or a moment in mN half-mm, that is answered of a section.
-#[repr(C)]
-#[derive(Clone, Copy)]
-pub struct Amount {
-    pub refusal: u32,
-    pub amount: i64,
-}
-
-// A line of the table of refusals: its number where its test fails, else what the lines below it say.
-fn line(passes: bool, number: u32, below: u32) -> u32
-    ensures { result ≡ cond passes below number }
+// A line of the table of refusals: it refuses where its test fails.
+fn require(passes: bool, refusal: Refusal) -> Result<(), Refusal>
+    ensures { MatchResult result (λ _. passes ≡ true) (λ e. (passes ≡ false) × (e ≡ refusal)) }
 {
-    if passes { below } else { number }
+    if passes { Ok(()) } else { Err(refusal) }
 }
 
-fn inside(low: u16, high: u16, n: u16) -> bool
-    ensures { result ≡ within low high n }
+// Each layer is in range, and deeper than the one above it.
+fn rise(h: u16, layers: &[Layer]) -> bool
+    ensures { result ≡ rise h 0 layers.now }
 {
-    (low <= n) & (n <= high)
+    layers.iter().all(|layer| layer.in_range(h))
+        && layers.is_sorted_by(|above, layer| above.depth < layer.depth)
 }
 
-// hf below h, and bf from b to 2000: not tested where there is no flange.
-fn flange_right(s: Section) -> bool
-    ensures { result ≡ flange_right s }
-{
-    (s.hf == 0) | ((s.hf < s.h) & inside(s.b, 2000, s.bf))
-}
-
-fn load_right(load: i32) -> bool
-    ensures { result ≡ leb (nat_abs load) 10000000 }
-{
-    (-10000000 <= load) & (load <= 10000000)
-}
-
-fn in_range(h: u16, layer: Layer) -> bool
-    ensures { result ≡ in_range h layer }
-{
-    (0 < layer.depth) & (layer.depth < h) & (0 < layer.area)
-}
-
-fn layers_right(s: Section) -> bool
-    ensures { result ≡ layers_right s }
-{
-    let m = s.count as usize;
-    if 8 < m {
-        return false;
-    }
-    let h = s.h;
-    let mut right = true;
-    let mut above: u16 = 0;
-    for j in 0..m {
-        let layer = s.layers[j];
-        right = right & (in_range(h, layer) & (above < layer.depth));
-        above = layer.depth;
-    }
-    right
-}
-
-fn bars_right(s: Section) -> bool
-    ensures { result ≡ layers_right s && mid_right s }
-{
-    if !layers_right(s) {
-        return false;
-    }
-    let m = s.count as usize;
-    if m == 0 {
-        return true;
-    }
-    let at = m - 1;
-    let deepest = s.layers[at];
-    (s.h as u32) < 2 * (deepest.depth as u32)
-}
-
-fn depth_taken(s: Section, depth: u16) -> bool
-    requires { s.count ≤ 8 }
-    ensures { result ≡ taken depth (layers_of s) }
-{
-    let m = s.count as usize;
-    let mut found = false;
-    for j in 0..m {
-        let layer = s.layers[j];
-        found = found | (depth == layer.depth);
-    }
-    found
-}
-
-// Why a section takes no such layer, or 0.
-fn layer_refusal(s: Section, layer: Layer) -> u32
-    ensures { result ≡ layer_refusal s layer }
-{
-    // More than 8 could not be looked through, and at 8 there is no place left.
-    if 8 <= s.count {
-        return 12;
-    }
-    let refusal = line(layers_right(s), 12, 0);
-    let refusal = line(!depth_taken(s, layer.depth), 12, refusal);
-    line(in_range(s.h, layer), 12, refusal)
-}
-
-// The layers with one more. The layer carried takes the place of a deeper one, which is then carried on.
-fn with_one_more(s: Section, layer: Layer) -> [Layer; 8]
-    requires { (s.count < 8) × (layers_right s ≡ true) }
-    ensures { result ≡ inserted layer (layers_of s) ++ drop (s.count + 1) s.layers }
-{
-    let m = s.count as usize;
-    let mut layers = s.layers;
-    let mut carried = layer;
-    for j in 0..m {
-        let here = layers[j];
-        if carried.depth < here.depth {
-            layers[j] = carried;
-            carried = here;
-        }
-    }
-    layers[m] = carried;
-    layers
-}
-
-// The places of the layers there are: a section that is handed over may count more than it has places for.
-fn places(count: u16) -> usize
-    ensures { result ≡ count - (count - 8) }
-{
-    if count < 8 { count as usize } else { 8 }
-}
-
-// The area of a layer below mid-height, else 0.
-fn area_below(h: u16, depth: u16, area: u16) -> u64
-    ensures { (result ≡ cond (ltb h (2 * depth)) area 0) × (result ≤ 65535) }
-{
-    if (h as u32) < 2 * (depth as u32) {
-        area as u64
-    } else {
-        0
-    }
-}
-
-impl Amount {
-    // A refusal's number beside zero.
-    pub fn refused(number: u32) -> Amount
-        ensures { result ≡ no_amount number }
+impl Layer {
+    fn in_range(self, h: u16) -> bool
+        ensures { result ≡ in_range h self }
     {
-        Amount {
-            refusal: number,
-            amount: 0,
-        }
+        0 < self.depth && self.depth < h && 0 < self.area
     }
 }
 
@@ -208,61 +81,149 @@ impl Section {
     pub fn steel(self) -> Steel
         ensures { (result.area ≡ steel_area self) × (result.moment ≡ steel_moment self) × (result.area ≤ 65535 * 8) }
     {
-        let m = places(self.count);
-        let mut areas: u64 = 0;
-        let mut moments: u64 = 0;
-        for j in 0..m {
-            let layer = self.layers[j];
-            let here = area_below(self.h, layer.depth, layer.area);
-            areas = areas + here;
-            moments = moments + here * (layer.depth as u64);
+        let mut area: u64 = 0;
+        let mut moment: u64 = 0;
+        for layer in self.present() {
+            if (self.h as u32) < 2 * (layer.depth as u32) {
+                let here = layer.area as u64;
+                area += here;
+                moment += here * (layer.depth as u64);
+            }
         }
-        Steel {
-            area: areas,
-            moment: moments,
-        }
+        Steel { area, moment }
     }
 
-    // The refusal of a section, 7 to 13 with 20, or 0. It is built from the table's last line up, so that the first that holds stays.
-    pub fn refusal(self) -> u32
-        ensures { result ≡ section_refusal self }
+    // Whether a section is accepted: the first line of the table that it does not pass, of 7 to 13 with 20 after 8,
+    // refuses it.
+    #[tactic(auto, unfolding(crate::specs::Refusal::section_refusal))]
+    pub fn check(self) -> Result<(), Refusal>
+        ensures { number_of result ≡ section_refusal self }
     {
-        let refusal = line((self.asw == 0) | (0 < self.spacing), 13, 0);
-        let refusal = line(bars_right(self), 12, refusal);
-        let refusal = line(load_right(self.load), 11, refusal);
-        let refusal = line((self.feq2 <= 20000) & (self.feq3 <= 20000), 10, refusal);
-        let refusal = line(inside(400, 600, self.fyk), 9, refusal);
-        let refusal = line(flange_right(self), 20, refusal);
-        let refusal = line(
-            inside(50, 2000, self.b) & inside(50, 1000, self.h),
-            8,
-            refusal,
-        );
-        line(inside(20, 50, self.fck) & (self.fck % 5 == 0), 7, refusal)
+        require(self.concrete_right(), Refusal::Concrete)?;
+        require(self.sizes_right(), Refusal::Sizes)?;
+        require(self.flange_right(), Refusal::Flange)?;
+        require(self.steel_right(), Refusal::BarStrength)?;
+        require(self.fibres_right(), Refusal::Fibres)?;
+        require(self.load_right(), Refusal::Load)?;
+        require(self.bars_right(), Refusal::Bars)?;
+        require(self.stirrups_right(), Refusal::Stirrups)
     }
 
-    // The section with a layer in its place by depth; or 12 and the section as it came.
-    pub fn with_layer(self, depth: u16, area: u16) -> Added
-        ensures { result ≡ added_answer self (record { depth = depth; area = area }) }
+    fn concrete_right(&self) -> bool
+        ensures { result ≡ in_table self.now.fck }
     {
-        let layer = Layer {
-            depth: depth,
-            area: area,
-        };
-        let refusal = layer_refusal(self, layer);
-        if refusal != 0 {
-            return Added {
-                refusal: refusal,
-                section: self,
-            };
-        }
-        let layers = with_one_more(self, layer);
-        let mut section = self;
-        section.layers = layers;
-        section.count = self.count + 1;
-        Added {
-            refusal: 0,
-            section: section,
-        }
+        (20..=50).contains(&self.fck) && self.fck % 5 == 0
+    }
+
+    fn sizes_right(&self) -> bool
+        ensures { result ≡ within 50 2000 self.now.b && within 50 1000 self.now.h }
+    {
+        (50..=2000).contains(&self.b) && (50..=1000).contains(&self.h)
+    }
+
+    // hf below h, and bf from b to 2000: not tested where there is no flange.
+    fn flange_right(&self) -> bool
+        ensures { result ≡ flange_right self.now }
+    {
+        self.hf == 0 || self.hf < self.h && (self.b..=2000).contains(&self.bf)
+    }
+
+    fn steel_right(&self) -> bool
+        ensures { result ≡ within 400 600 self.now.fyk }
+    {
+        (400..=600).contains(&self.fyk)
+    }
+
+    fn fibres_right(&self) -> bool
+        ensures { result ≡ leb self.now.feq2 20000 && leb self.now.feq3 20000 }
+    {
+        self.feq2 <= 20000 && self.feq3 <= 20000
+    }
+
+    fn load_right(&self) -> bool
+        ensures { result ≡ leb (nat_abs self.now.load) 10000000 }
+    {
+        self.load.unsigned_abs() <= 10000000
+    }
+
+    // The layers there are: a section that is handed over may count more than it has places for.
+    fn present(&self) -> &[Layer]
+        ensures { result.now ≡ take self.now.count self.now.layers }
+    {
+        let places = (self.count as usize).min(self.layers.len());
+        &self.layers[..places]
+    }
+
+    #[tactic(auto, using(crate::proofs::Layers::front), unfolding(crate::specs::Section::layers_right))]
+    fn layers_right(&self) -> bool
+        ensures { result ≡ layers_right self.now }
+    {
+        self.count <= 8 && rise(self.h, self.present())
+    }
+
+    // And the deepest lies below mid-height.
+    fn bars_right(&self) -> bool
+        ensures { result ≡ layers_right self.now && mid_right self.now }
+    {
+        self.layers_right()
+            && self
+                .present()
+                .last()
+                .is_none_or(|deepest| (self.h as u32) < 2 * (deepest.depth as u32))
+    }
+
+    fn stirrups_right(&self) -> bool
+        ensures { result ≡ eqb self.now.asw 0 || ltb 0 self.now.spacing }
+    {
+        self.asw == 0 || 0 < self.spacing
+    }
+
+    fn depth_taken(&self, depth: u16) -> bool
+        requires { self.now.count ≤ 8 }
+        ensures { result ≡ taken depth (layers_of self.now) }
+    {
+        self.present().iter().any(|layer| depth == layer.depth)
+    }
+
+    // Whether a layer can be added. All refuse by one number.
+    #[tactic(auto, unfolding(crate::specs::Added::layer_refusal))]
+    fn check_layer(&self, layer: Layer) -> Result<(), Refusal>
+        ensures { number_of result ≡ layer_refusal self.now layer }
+    {
+        // More than 8 could not be looked through, and at 8 there is no place left.
+        require(self.count < 8, Refusal::Bars)?;
+        require(self.layers_right(), Refusal::Bars)?;
+        require(!self.depth_taken(layer.depth), Refusal::Bars)?;
+        require(layer.in_range(self.h), Refusal::Bars)
+    }
+
+    // The layers with one more, before the first that is deeper.
+    fn with_one_more(&self, layer: Layer) -> [Layer; 8]
+        requires { self.now.count < 8 }
+        ensures { result ≡ inserted layer (layers_of self.now) ++ drop (self.now.count + 1) self.now.layers }
+    {
+        let m = self.count as usize;
+        let at = self.layers[..m]
+            .iter()
+            .position(|here| layer.depth < here.depth)
+            .unwrap_or(m);
+        let mut layers = self.layers;
+        layers.copy_within(at..m, at + 1);
+        layers[at] = layer;
+        layers
+    }
+
+    // The section with a layer in its place by depth.
+    #[tactic(auto, using(crate::proofs::Accepted::takes), unfolding(crate::specs::Added::with_layer))]
+    pub fn with_layer(self, depth: u16, area: u16) -> Result<Section, Refusal>
+        ensures { let l : Layer = record { depth = depth; area = area } in Answers (layer_refusal self l) (with_layer self l) result }
+    {
+        let layer = Layer { depth, area };
+        self.check_layer(layer)?;
+        Ok(Section {
+            count: self.count + 1,
+            layers: self.with_one_more(layer),
+            ..self
+        })
     }
 }

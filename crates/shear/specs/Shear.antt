@@ -2,15 +2,12 @@
 -- in mm²; k, c and kf in thousandths. Every quotient is rounded down.
 use Rattle.std.specs.Prelude.{ℕ, ◌+◌, ◌*◌, ◌-◌, ◌/◌, min, max, cond, ltb, eqb, ℤ, pos, nat_abs, ◌+ℤ◌, ◌*ℤ◌}
 use Rattle.std.specs.Int.Signed.{lt_z}
-use Rattle.arith.specs.Answers.{unless_refused}
 use Rattle.arith.specs.Floor.{floor_div}
 use Rattle.arith.specs.Largest.{largest}
 use Rattle.arith.specs.Lines.{line, first_of}
 use Rattle.section.specs.declared.Section.{Section}
-use Rattle.section.specs.declared.Amount.{Amount}
 use Rattle.section.specs.Refusal.{section_refusal}
 use Rattle.section.specs.Has.{concrete_area, steel_area, load_of}
-use Rattle.section.specs.Amount.{answered, no_amount}
 use Rattle.law.specs.declared.Law.{Law}
 use Rattle.law.specs.Law.{law_of}
 
@@ -71,9 +68,6 @@ resistance_under l s =
 abbrev pub resistance : Section → ℕ
 resistance s = resistance_under (law_of s) s
 
--- ---- the answer: 7 to 13 with 20, then 16 without bars
+-- ---- what is refused: 7 to 13 with 20, then 16 without bars
 unfoldable pub shear_refusal : Section → ℕ
 shear_refusal s = first_of (section_refusal s) (line (ltb 0 s.count) 16 0)
-
-unfoldable pub shear_answer : Section → Amount
-shear_answer s = unless_refused (shear_refusal s) (answered (pos (resistance s))) no_amount

@@ -14,7 +14,7 @@ use Rattle.arith.proofs.Largest.{found}
 use Rattle.arith.proofs.Least.{least_found, least_none, multiple_climbs}
 use Rattle.roots.proofs.Powers.{raised_climbs}
 use Rattle.strength.specs.Strength.{t10_of, mean_of, distance, square_from, squares_of, deviation_of, g_of, series_a, series_g}
-use Rattle.strength.specs.Strength.{NumberIn, answered, strength_answer}
+use Rattle.strength.specs.Strength.{NumberIn, answered, strength_refusal, strength_of}
 use Rattle.strength.specs.Code.{SeriesIn}
 use Rattle.strength.proofs.Formula.{a_none}
 use Rattle.strength.proofs.Refused.{number_is, results_are, series_in}
@@ -56,9 +56,10 @@ module _ (rs : List ℕ) (r : ℕ) (number : NumberIn rs) (range : Between 1 200
     second = g_none;
   }
 
-  pub equal_answer : (strength_answer rs ≡ answered r 0 r) × (series_a rs ≡ 0) × (series_g rs ≡ 0)
+  pub equal_answer : (strength_refusal rs ≡ 0) × (strength_of rs ≡ answered r 0 r) × (series_a rs ≡ 0) × (series_g rs ≡ 0)
   equal_answer =
       let some : 0 < t10_of (length rs) = ltb-true 0 _ ((number_is rs).1 number) in
       let right = (results_are rs).1 series.each in
       let whole : r - 0 - 0 ≡ r = omega arith in
-      (sym (by_none rs some right equal (omega arith)) ∙ ap (answered r 0) whole, sym (a_is equal), sym (g_is equal))
+      let passes = by_none rs some right equal (omega arith) in
+      (passes.0, sym passes.1 ∙ ap (answered r 0) whole, sym (a_is equal), sym (g_is equal))

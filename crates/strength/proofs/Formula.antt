@@ -1,21 +1,24 @@
 -- Formulas 5 and 6, from what the code finds: the mean, roots by their digits, a quotient that is rounded up; how large they get.
 -- Assumes nothing.
 use Prim.Native.Nat.{ℕ, ◌+◌, ◌*◌, ◌-◌, ◌/◌, ◌^◌, ◌≤◌, ◌<◌}
-use mathlib.Core.Path.{◌≡◌, ap, ◌∙◌, subst}
+use mathlib.Core.Path.{◌≡◌, refl, sym, ap, ◌∙◌, subst}
 use mathlib.Core.Bool.{false}
 use mathlib.Core.List.{List}
 use native.Mathlib.Nat as NatL
 use native.Mathlib.Omega.{arith}
-use lib.ListN.{length}
+use lib.ListN.{length, get_or}
+use Rattle.std.specs.Int.{div_ceil}
+use Rattle.std.specs.List.{sum, sum_by}
 use Rattle.arith.specs.Sums.{placed, sum_over}
 use Rattle.arith.specs.Least.{Least, least}
 use Rattle.arith.proofs.Sums.{sum_under, sum_alike, sum_most}
+use Rattle.arith.proofs.Chains.{sum_by_place}
 use Rattle.arith.proofs.Largest.{Climbs}
-use Rattle.arith.proofs.Least.{least_found, least_none, least_past, multiple_climbs, rounded_up_is}
+use Rattle.arith.proofs.Least.{least_found, least_none, least_past, multiple_climbs, rounded_up_is, div_ceil_is}
 use Rattle.roots.specs.Root.{raised, Root}
 use Rattle.roots.proofs.Powers.{raised_climbs}
 use Rattle.roots.proofs.Theorems.{root_below, root_found}
-use Rattle.strength.specs.Strength.{t10_of, mean_of, deviation_of, scaled, a_of, g_of}
+use Rattle.strength.specs.Strength.{t10_of, mean_of, distance, square_from, squares_of, deviation_of, scaled, a_of, g_of}
 use Rattle.strength.specs.Code.{SeriesIn}
 
 -- ---- the mean lies where the results lie
@@ -33,6 +36,30 @@ module _ {rs : List ℕ} (w : SeriesIn rs) where
   pub mean_most : mean_of rs ≤ 20000
   unfolding mean_of
   mean_most = NatL.div-le_of_le-mul (length rs) (omega (arith, total_most))
+
+  pub mean_by : (total : ℕ) → total ≡ sum rs → (total / length rs ≡ mean_of rs) × (0 < total / length rs) × (total / length rs ≤ 20000)
+  unfolding mean_of
+  mean_by total e = let is : total ≡ sum_over (λ r. r) rs = e ∙ sym (sum_by_place (λ r. r) rs) in rw is (refl, mean_some, mean_most)
+
+  -- ---- a square, and their sum
+  module _ (f : ℕ) (low : f ≤ 20000) where
+    square_most : (i : ℕ) → i < length rs → placed (square_from f) rs i ≤ 400000000
+    square_most i h =
+        let away : distance f (get_or rs i 0) ≤ 20000 = omega (arith, w.each i h) in
+        NatL.mul-le-mul {n₂ = 20000} {m₂ = 20000} away away
+
+    pub squares_under : squares_of f rs ≤ 400000000 * length rs
+    unfolding squares_of
+    squares_under = sum_most (length rs) 400000000 (placed (square_from f) rs) square_most
+
+    pub squares_by : (total : ℕ) → total ≡ sum_by (square_from f) rs → (total ≡ squares_of f rs) × (total ≤ 400000000 * length rs)
+    unfolding squares_of
+    squares_by total e =
+        let is : total ≡ sum_over (square_from f) rs = e ∙ sym (sum_by_place (square_from f) rs) in
+        (is, rw is squares_under)
+
+    pub squares_fit : sum_by (square_from f) rs < 2 ^ 64
+    squares_fit = omega (arith, (squares_by (sum_by (square_from f) rs) refl).1, w.few)
 
 -- ---- s
 pub deviation_root :
@@ -71,9 +98,12 @@ reach_most s t small low =
 
 -- ---- g
 module _ (f s a : ℕ) (some : 0 < f) where
-  pub g_is : (329 * s * (f + a) + (200 * f - 1)) / (200 * f) ≡ g_of f s a
+  pub g_is : div_ceil (329 * s * (f + a)) (200 * f) ≡ g_of f s a
   unfolding g_of
-  g_is = least_found (multiple_climbs (200 * f) (omega arith)) (rounded_up_is (329 * s * (f + a)) (200 * f) (omega arith))
+  g_is =
+      let m = 329 * s * (f + a) in
+      let by = 200 * f in
+      div_ceil_is m by (omega arith) ∙ least_found (multiple_climbs by (omega arith)) (rounded_up_is m by (omega arith))
 
   pub g_most : f ≤ 20000 → s < 2 ^ 15 → a ≤ 2 ^ 16 → 329 * s * (f + a) ≤ 2 ^ 40
   g_most low small few =

@@ -1,6 +1,6 @@
 -- What 21 and 22 decide; a series that passes both, and 23. Assumes nothing.
 use Prim.Native.Nat.{ℕ, ◌+◌, ◌≤◌, ◌<◌}
-use mathlib.Core.Path.{◌≡◌, refl}
+use mathlib.Core.Path.{◌≡◌, refl, ◌∙◌}
 use mathlib.Core.Bool.{Bool, true, false, cond, ◌&&◌, false≢true}
 use mathlib.Core.Logic.{◌⊎◌, inl, inr, ⊎_elim}
 use mathlib.Core.List.{List, [], ◌∷◌}
@@ -11,9 +11,10 @@ use borrow.Author.Tests.{ltb-true, lt-ltb, eqb-true, eqb-false}
 use Rattle.arith.specs.Lines.{within, Between}
 use Rattle.arith.proofs.Tests.{both, all_below_is, below_all, Decides, is_most, is_both}
 use Rattle.arith.proofs.Lines.{between, passes}
+use Rattle.arith.proofs.Chains.{all_by_place}
 use Rattle.strength.specs.Strength.{numbers, fractiles, under, t10_of, mean_of, series_a, series_g}
 use Rattle.strength.specs.Strength.{right_at, results_right, strength_refusal, OneOf, NumberIn, ResultsIn, ValueIn}
-use Rattle.strength.specs.Code.{SeriesIn}
+use Rattle.strength.specs.Code.{SeriesIn, all_in_range}
 
 -- ---- 21: each number of Table 2 has a t10, and no other has
 paired : List ℕ → List ℕ → Bool
@@ -69,8 +70,11 @@ results_are rs = (
 pub series_in : (rs : List ℕ) → NumberIn rs → ResultsIn rs → SeriesIn rs
 series_in rs number each = let p = (in_table (length rs)).inside number in record { some = p.0; few = p.1; each = each }
 
-pub series_by : (rs : List ℕ) → 0 < t10_of (length rs) → results_right rs ≡ true → SeriesIn rs
-series_by rs number right = series_in rs ((number_is rs).0 (lt-ltb 0 _ number)) ((results_are rs).0 right)
+pub in_range_is : (rs : List ℕ) → results_right rs ≡ all_in_range rs
+in_range_is rs = all_by_place (within 1 20000) rs
+
+pub series_by : (rs : List ℕ) → 0 < t10_of (length rs) → all_in_range rs ≡ true → SeriesIn rs
+series_by rs number right = series_in rs ((number_is rs).0 (lt-ltb 0 _ number)) ((results_are rs).0 (in_range_is rs ∙ right))
 
 pub passes_all : (rs : List ℕ) → strength_refusal rs ≡ 0 → SeriesIn rs × ValueIn rs
 unfolding strength_refusal

@@ -4,18 +4,16 @@ use mathlib.Core.Bool.{false}
 use mathlib.Core.List.{List}
 use native.Mathlib.Nat as NatL
 use native.Mathlib.Omega.{arith}
-use lib.ListN.{length, get_or}
-use Rattle.arith.specs.Sums.{placed}
+use lib.ListN.{length}
 use Rattle.arith.specs.Largest.{Largest}
 use Rattle.arith.specs.Least.{Least, multiple}
-use Rattle.arith.proofs.Sums.{sum_most}
 use Rattle.arith.proofs.Largest.{Climbs, largest_is, fits_below}
 use Rattle.arith.proofs.Least.{least_is, multiple_climbs}
 use Rattle.roots.proofs.Powers.{raised_climbs}
-use Rattle.strength.specs.Strength.{t10_of, mean_of, distance, square_from, squares_of, spread, deviation_of, scaled, a_of, g_of}
+use Rattle.strength.specs.Strength.{t10_of, mean_of, squares_of, spread, deviation_of, scaled, a_of, g_of}
 use Rattle.strength.specs.Strength.{series_deviation, series_a, series_g}
 use Rattle.strength.specs.Code.{SeriesIn}
-use Rattle.strength.proofs.Formula.{mean_some, mean_most, reach_most}
+use Rattle.strength.proofs.Formula.{mean_some, mean_most, squares_under, reach_most}
 use Rattle.strength.proofs.Refused.{t10_most}
 
 module _ {rs : List ℕ} (w : SeriesIn rs) where
@@ -43,13 +41,7 @@ module _ {rs : List ℕ} (w : SeriesIn rs) where
 
   -- ---- how large they get
   pub squares_most : squares_of (mean_of rs) rs ≤ 400000000 * length rs
-  unfolding squares_of
-  squares_most = sum_most (length rs) 400000000 (placed (square_from (mean_of rs)) rs) each
-    where
-      each : (i : ℕ) → i < length rs → placed (square_from (mean_of rs)) rs i ≤ 400000000
-      each i h =
-          let away : distance (mean_of rs) (get_or rs i 0) ≤ 20000 = omega (arith, mean_most w, w.each i h) in
-          NatL.mul-le-mul {n₂ = 20000} {m₂ = 20000} away away
+  squares_most = squares_under w (mean_of rs) (mean_most w)
 
   pub deviation_most : series_deviation rs < 2 ^ 15
   deviation_most =

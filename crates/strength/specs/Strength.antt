@@ -1,12 +1,12 @@
 -- Document 02 [7], from beams to strengths: formulas 5 and 6 of document 002, with its Table 2. Results and strengths in kPa.
-use Rattle.std.specs.Prelude.{ℕ, ◌+◌, ◌*◌, ◌-◌, ◌/◌, ◌≤◌, ◌<◌, ◌≡◌, Bool, cond, ◌⊎◌, List, [], ◌∷◌, ltb, leb, eqb, length, get_or}
-use Rattle.arith.specs.Answers.{unless_refused}
+use Rattle.std.specs.Prelude.{ℕ, ◌+◌, ◌*◌, ◌-◌, ◌/◌, ◌≤◌, ◌<◌, ◌≡◌, Bool, cond, ◌⊎◌, List, [], ◌∷◌, ltb, leb, eqb}
+use Rattle.std.specs.Prelude.{length, get_or}
 use Rattle.arith.specs.Below.{all_below}
 use Rattle.arith.specs.Lines.{line, within, Between}
 use Rattle.arith.specs.Sums.{sum_over}
 use Rattle.arith.specs.Largest.{largest}
 use Rattle.arith.specs.Least.{least, rounded_up}
-use Rattle.strength.specs.declared.StrengthAnswer.{StrengthAnswer}
+use Rattle.strength.specs.declared.answer.Strength.{Strength}
 
 -- ---- Table 2: n, and t10 under it, in hundredths
 unfoldable pub numbers : List ℕ
@@ -99,11 +99,8 @@ abbrev pub ValueIn : List ℕ → Type 0
 ValueIn rs = series_a rs + series_g rs ≤ mean_of rs
 
 -- ---- the answer
-abbrev pub answered : (mean deviation value : ℕ) → StrengthAnswer
-answered mean deviation value = record { refusal = 0; mean = mean; deviation = deviation; value = value }
+abbrev pub answered : (mean deviation value : ℕ) → Strength
+answered mean deviation value = record { mean = mean; deviation = deviation; value = value }
 
-abbrev pub refused : ℕ → StrengthAnswer
-refused number = record { refusal = number; mean = 0; deviation = 0; value = 0 }
-
-unfoldable pub strength_answer : List ℕ → StrengthAnswer
-strength_answer rs = unless_refused (strength_refusal rs) (answered (mean_of rs) (series_deviation rs) (series_value rs)) refused
+unfoldable pub strength_of : List ℕ → Strength
+strength_of rs = answered (mean_of rs) (series_deviation rs) (series_value rs)

@@ -40,7 +40,7 @@ module _ {from to : ℕ} (h : from ≤ to) where
 abbrev bend : (fcd over unit : ℕ) → ℕ → ℕ
 bend fcd over unit j = 3 * (fcd * (unit * middle j * (8 * over - unit * middle j)))
 
-module _ {fcd over unit from to : ℕ} (o : OnParabola fcd over unit from to) where
+module _ (fcd : ℕ) {over unit from to : ℕ} (h : from ≤ to) (o : OnParabola over unit from to) where
   pub bends : sum_n (to - from) (after from (bend fcd over unit)) + fcd * unit * unit * squares from to ≡ fcd * unit * (24 * over) * odds from to
   bends =
       let all =
@@ -49,13 +49,13 @@ module _ {fcd over unit from to : ℕ} (o : OnParabola fcd over unit from to) wh
       let t = unit * middle (from + i) in
       let far : 8 * over - t + t ≡ 8 * over = omega (arith, o.on (from + i) (omega arith) (omega arith)) in
       omega (arith, ap (λ n. 3 * (fcd * (t * n))) far)) in
-      let odd : sum_n (to - from) (after from middle) ≡ odds from to = omega (arith, run_odds o.places.0) in
-      let three : 3 * sum_n (to - from) (after from square) ≡ squares from to = omega (arith, run_squares o.places.0) in
+      let odd : sum_n (to - from) (after from middle) ≡ odds from to = omega (arith, run_odds h) in
+      let three : 3 * sum_n (to - from) (after from square) ≡ squares from to = omega (arith, run_squares h) in
       omega (arith, ap (λ n. fcd * unit * (24 * over) * n) odd, ap (λ n. fcd * unit * unit * n) three)
 
-  pub bent_near : Near (sum_n (to - from) (after from (bent_at fcd over unit))) (to - from) (bent_sum fcd over unit from to)
-  bent_near =
-      let some : 0 < 48 * over * over = NatL.mul-pos (omega arith) o.axis.0 in
+  pub bent_near : 0 < over → Near (sum_n (to - from) (after from (bent_at fcd over unit))) (to - from) (bent_sum fcd over unit from to)
+  bent_near k =
+      let some : 0 < 48 * over * over = NatL.mul-pos (omega arith) k in
       quotients some (to - from) _ _ (after from (bend fcd over unit))
       (λ i k.
       let den : 48 * over * over ≡ 3 * (16 * over * over) = omega arith in
@@ -66,22 +66,27 @@ module _ {fcd over unit from to : ℕ} (o : OnParabola fcd over unit from to) wh
 abbrev slope : (ea sa eb sb over unit : ℕ) → ℕ → ℕ
 slope ea sa eb sb over unit j = sa * (eb * over - 500 * unit * middle j) + sb * (500 * unit * middle j - ea * over)
 
-module _ {ea sa eb sb over unit from to : ℕ} (o : OnRamp ea sa eb sb over unit from to) where
+module _ (sa sb : ℕ) {ea eb over unit from to : ℕ} (h : from ≤ to) (o : OnRamp ea eb over unit from to) where
   pub slopes : sum_n (to - from) (after from (slope ea sa eb sb over unit)) + (sa * (500 * unit * odds from to) + sb * (ea * (over * (to - from))))
       ≡ sa * (eb * (over * (to - from))) + sb * (500 * unit * odds from to)
   slopes =
       let all =
-      weighed (to - from) (sa * (500 * unit)) (sb * (ea * over)) (sb * (500 * unit)) (sa * (eb * over)) (after from (slope ea sa eb sb over unit)) (after from middle) (after from middle)
+      weighed (to - from) (sa * (500 * unit)) (sb * (ea * over)) (sb * (500 * unit)) (sa * (eb * over))
+      (after from (slope ea sa eb sb over unit))
+      (after from middle)
+      (after from middle)
       (λ i k.
       let p = 500 * unit * middle (from + i) in
       let on = o.on (from + i) (omega arith) (omega arith) in
       let high : eb * over - p + p ≡ eb * over = omega arith in
       let low : p - ea * over + ea * over ≡ p = omega arith in
       omega (arith, ap (λ n. sa * n) high, ap (λ n. sb * n) low)) in
-      let odd : sum_n (to - from) (after from middle) ≡ odds from to = omega (arith, run_odds o.places.0) in
+      let odd : sum_n (to - from) (after from middle) ≡ odds from to = omega (arith, run_odds h) in
       omega (arith, ap (λ n. sa * (500 * unit) * n) odd, ap (λ n. sb * (500 * unit) * n) odd)
 
-  pub ramp_near : Near (sum_n (to - from) (after from (ramp_at ea sa eb sb over unit))) (to - from) (ramp_sum ea sa eb sb over unit from to)
-  ramp_near =
+  pub ramp_near :
+      0 < over → ea < eb
+      → Near (sum_n (to - from) (after from (ramp_at ea sa eb sb over unit))) (to - from) (ramp_sum ea sa eb sb over unit from to)
+  ramp_near k longer =
       let long : 0 < eb - ea = omega arith in
-      quotients (NatL.mul-pos long o.axis.0) (to - from) _ _ (after from (slope ea sa eb sb over unit)) (λ i k. refl) (omega (arith, slopes))
+      quotients (NatL.mul-pos long k) (to - from) _ _ (after from (slope ea sa eb sb over unit)) (λ i k. refl) (omega (arith, slopes))

@@ -1,5 +1,6 @@
 -- Where the places of a run pass a limit, and a run's places as strips. Assumes nothing.
 use Prim.Native.Nat.{ℕ, ◌+◌, ◌*◌, ◌-◌, ◌/◌, ◌≤◌, ◌<◌}
+use Rattle.std.proofs.Common.{min, max}
 use mathlib.Core.Path.{◌≡◌, sym, ap, ◌∙◌}
 use mathlib.Core.Bool.{Bool, true, false}
 use native.Mathlib.Nat as NatL
@@ -11,7 +12,7 @@ use Rattle.law.specs.Stress.{size, concrete}
 use Rattle.law.proofs.Sizes.{small_is, sized}
 use Rattle.strips.specs.declared.Axis.{Axis}
 use Rattle.strips.specs.Strips.{middle, reach, strip_size}
-use Rattle.strips.specs.Bounds.{least, most, cut_at}
+use Rattle.strips.specs.Bounds.{cut_at}
 use Rattle.strips.specs.Code.{Near, Fit}
 
 -- ---- the j-th place is within the limit where its 2 j + 1 is at most the quotient
@@ -32,7 +33,11 @@ cuts limit rate from to some h e = record {
 }
 
 -- ---- a run, by another name for its terms
-pub near_same : {n r : ℕ} (f g : ℕ → ℕ) (from to : ℕ) → ((j : ℕ) → from ≤ j → j < to → f j ≡ g j) → Near (sum_n (to - from) (after from f)) n r → Near (sum_n (to - from) (after from g)) n r
+pub near_same :
+    {n r : ℕ} (f g : ℕ → ℕ) (from to : ℕ)
+    → ((j : ℕ) → from ≤ j → j < to → f j ≡ g j)
+    → Near (sum_n (to - from) (after from f)) n r
+    → Near (sum_n (to - from) (after from g)) n r
 near_same f g from to h p = rw (run_same f g from to h) at p
 
 -- ---- strips by their places from the axis
@@ -40,11 +45,11 @@ near_same f g from to h p = rw (run_same f g from to h) at p
 abbrev pub place_at : Law → Bool → Axis → ℕ → ℕ
 place_at l pulls a j = size (concrete l pulls (500 * a.unit * middle j) a.over)
 
-past : (x from to : ℕ) → to - x - (from - x) ≡ to - most from x
+past : (x from to : ℕ) → to - x - (from - x) ≡ to - max from x
 past x from to = omega arith
 
 -- of the strips from..to those from `mid` on lie below the axis x; the places count from there
-module _ (x from to : ℕ) {mid : ℕ} (e : mid ≡ most from (least x to)) where
+module _ (x from to : ℕ) {mid : ℕ} (e : mid ≡ max from (min x to)) where
   up_from : from < mid → x - to + mid ≡ x
   up_from h = omega arith
 
@@ -69,7 +74,7 @@ module _ {l : Law} {a : Axis} {to : ℕ} (fit : Fit l a to) where
       (ap (λ m. size (concrete l pulls (500 * a.unit * m) a.over)) e)
 
   -- the strips from..to, those from `mid` on below the axis
-  module _ {from mid : ℕ} (h : from ≤ to) (e : mid ≡ most from (least a.x to)) where
+  module _ {from mid : ℕ} (h : from ≤ to) (e : mid ≡ max from (min a.x to)) where
     pub above : sum_n (a.x - from - (a.x - to)) (after (a.x - to) (place_at l false a)) ≡ sum_n (mid - from) (after from (strip_size l false a))
     above =
         ap (λ n. sum_n n (after (a.x - to) (place_at l false a))) (omega arith)

@@ -14,7 +14,9 @@ use Rattle.strips.specs.declared.Axis.{Axis}
 use Rattle.strips.specs.Strips.{strip, scale_of, strip_size}
 
 -- a strip of a small law, from its size
-pub strip_rounded : (l : Law) (a : Axis) (i : ℕ) (pulls : Bool) → small l ≡ true → leb a.x i ≡ pulls → signed pulls (strip_size l pulls a i) ≡ rounded (strip l (scale_of a) a.x i)
+pub strip_rounded :
+    (l : Law) (a : Axis) (i : ℕ) (pulls : Bool) → small l ≡ true → leb a.x i ≡ pulls
+    → signed pulls (strip_size l pulls a i) ≡ rounded (strip l (scale_of a) a.x i)
 unfolding strip size_in
 strip_rounded l a i pulls e s = rw (e, s) (concrete_rounded l pulls _ _)
 

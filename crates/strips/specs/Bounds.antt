@@ -1,5 +1,5 @@
 -- Bounds of the sum over a run of strips: the closed sum of those on each side of the axis, cut where one piece of the law ends and the next starts.
-use Rattle.std.specs.Prelude.{ℕ, ◌+◌, ◌*◌, ◌-◌, ◌/◌, Bool, cond, ◌&&◌, ltb, leb, ℤ, pos, neg_ℤ, ◌+ℤ◌, ◌-ℤ◌}
+use Rattle.std.specs.Prelude.{ℕ, ◌+◌, ◌*◌, ◌-◌, ◌/◌, min, max, Bool, cond, ◌&&◌, ltb, leb, ℤ, pos, neg_ℤ, ◌+ℤ◌, ◌-ℤ◌}
 use Rattle.law.specs.declared.Law.{Law}
 use Rattle.strips.specs.declared.Axis.{Axis}
 use Rattle.strips.specs.declared.Bound.{Bound}
@@ -7,14 +7,8 @@ use Rattle.strips.specs.declared.Range.{Range}
 use Rattle.strips.specs.Closed.{bent_sum, ramp_sum}
 
 -- the first of the places from..to whose reach times a rate is above a limit; or `to`
-abbrev pub least : ℕ → ℕ → ℕ
-least a b = a - (a - b)
-
-abbrev pub most : ℕ → ℕ → ℕ
-most a b = a + (b - a)
-
 abbrev pub cut_at : (limit rate from to : ℕ) → ℕ
-cut_at limit rate from to = most from (least ((limit / rate + 1) / 2) to)
+cut_at limit rate from to = max from (min ((limit / rate + 1) / 2) to)
 
 -- ---- the sizes of law, axis and run, with room for what is to come: 64 bits hold every closed sum of up to 2000 strips
 abbrev pub fits : Law → Axis → ℕ → Bool
@@ -77,4 +71,4 @@ abbrev pub unknown : Range
 unknown = record { low = neg_ℤ (pos 4294967296); high = pos 4294967296 }
 
 unfoldable pub bounds_of : Law → Axis → ℕ → ℕ → Range
-bounds_of l a from to = cond (fits l a to) (closed_bounds l a (least from to) to) unknown
+bounds_of l a from to = cond (fits l a to) (closed_bounds l a (min from to) to) unknown

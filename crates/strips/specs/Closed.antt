@@ -21,4 +21,5 @@ bent_sum fcd over unit from to = (fcd * unit * (24 * over) * odds from to - fcd 
 -- ---- a ramp from (ea, sa) to (eb, sb)
 abbrev pub ramp_sum : (ea sa eb sb over unit from to : ℕ) → ℕ
 ramp_sum ea sa eb sb over unit from to =
-    (sa * (eb * (over * (to - from))) + sb * (500 * unit * odds from to) - (sa * (500 * unit * odds from to) + sb * (ea * (over * (to - from))))) / ((eb - ea) * over)
+    (sa * (eb * (over * (to - from))) + sb * (500 * unit * odds from to) - (sa * (500 * unit * odds from to) + sb * (ea * (over * (to - from)))))
+    / ((eb - ea) * over)

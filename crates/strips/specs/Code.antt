@@ -11,25 +11,22 @@ pub record Near (sum n most : ℕ) : Type 0 where
   pub least : sum ≤ most
   pub rest : most ≤ sum + n
 
--- ---- the parabola: the strip at place j, and the places from..to on it, of a size for 64 bits
+-- ---- the parabola: the strip at place j, and that the places from..to are on it
 abbrev pub bent_at : (fcd over unit : ℕ) → ℕ → ℕ
 bent_at fcd over unit j = fcd * (unit * middle j * (8 * over - unit * middle j)) / (16 * over * over)
 
-pub record OnParabola (fcd over unit from to : ℕ) : Type 0 where
-  pub weak : fcd ≤ 28333
-  pub axis : (0 < over) × (over ≤ 22000) × (unit ≤ 50)
-  pub places : (from ≤ to) × (to ≤ 2000)
+pub record OnParabola (over unit from to : ℕ) : Type 0 where
   pub on : (j : ℕ) → from ≤ j → j < to → unit * middle j ≤ 4 * over
 
 -- ---- a ramp from (ea, sa) to (eb, sb): the same
 abbrev pub ramp_at : (ea sa eb sb over unit : ℕ) → ℕ → ℕ
 ramp_at ea sa eb sb over unit j = (sa * (eb * over - 500 * unit * middle j) + sb * (500 * unit * middle j - ea * over)) / ((eb - ea) * over)
 
-pub record OnRamp (ea sa eb sb over unit from to : ℕ) : Type 0 where
-  pub stresses : (sa ≤ 10000) × (sb ≤ 10000)
-  pub ends : (ea < eb) × (eb ≤ 25000)
-  pub axis : (0 < over) × (over ≤ 22000) × (unit ≤ 50)
-  pub places : (from ≤ to) × (to ≤ 2000)
+-- the strains at the places from..to are at least e; and on the ramp
+pub record Past (e over unit from to : ℕ) : Type 0 where
+  pub on : (j : ℕ) → from ≤ j → j < to → e * over ≤ 500 * unit * middle j
+
+pub record OnRamp (ea eb over unit from to : ℕ) : Type 0 where
   pub on : (j : ℕ) → from ≤ j → j < to → (ea * over ≤ 500 * unit * middle j) × (500 * unit * middle j ≤ eb * over)
 
 -- ---- the sizes that the test of `Bounds` asks for

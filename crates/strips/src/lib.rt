@@ -3,11 +3,11 @@
 // each, so a closed sum is above the sum of the rounded stresses by at most the number of strips that are rounded.
 #![tactic(auto)]
 
-ghost use Rattle.std.specs.Prelude.{◌≡◌, ◌+◌, ◌*◌, ◌-◌, ◌^◌, ◌≤◌, ◌<◌, leb};
-ghost use Rattle.strips.specs.Strips.{reach, strip_size, strip_at};
+ghost use Rattle.std.specs.Prelude.{◌≡◌, ◌+◌, ◌*◌, ◌-◌, ◌^◌, ◌≤◌, ◌<◌, leb, true, false, min, MatchOption};
+ghost use Rattle.strips.specs.Strips.{reach, strip_at};
 ghost use Rattle.strips.specs.Closed.{odds, thrice, squares, bent_sum, ramp_sum};
 ghost use Rattle.strips.specs.Bounds.{cut_at, end_of, fits, pressed_bound, pulled_bound, bounds_of};
-ghost use Rattle.strips.specs.Code.{OnParabola, OnRamp, Fit};
+ghost use Rattle.strips.specs.Code.{OnParabola, Past, OnRamp, Fit};
 
 use law::Law;
 
@@ -34,90 +34,35 @@ struct Bound {
     rounded: u64,
 }
 
-fn least(a: u64, b: u64) -> u64
-    ensures { result ≡ a - (a - b) }
-{
-    if a < b { a } else { b }
+// Strips by their places from the axis, on their own side of it, the places from..to: at place j the reach is 2 j + 1.
+#[derive(Clone, Copy)]
+struct Places {
+    from: u64,
+    to: u64,
+    ghost in_order: { from ≤ to },
+    ghost few: { to ≤ 2000 },
 }
 
-fn most(a: u64, b: u64) -> u64
-    ensures { result ≡ a + (b - a) }
-{
-    if a < b { b } else { a }
+// A straight piece of the law, from (ea, sa) to (eb, sb), rising or falling.
+#[derive(Clone, Copy)]
+struct Ramp {
+    ea: u32,
+    sa: u32,
+    eb: u32,
+    sb: u32,
+    ghost ends: { (ea < eb) × (eb ≤ 25000) },
+    ghost stresses: { (sa ≤ 10000) × (sb ≤ 10000) },
 }
 
-// How far a lies beyond b: 0 where it does not.
-fn beyond(a: u64, b: u64) -> u64
-    ensures { result ≡ a - b }
-{
-    if a < b { 0 } else { a - b }
-}
-
-// How far a strip's middle lies from the axis, on the strip's own side.
-fn reach(pulls: bool, x: u16, i: u16) -> u32
-    requires { leb x i ≡ pulls }
-    ensures { (result ≡ reach pulls x i) × (result ≤ 131071) }
-{
-    let axis = 2 * (x as u32);
-    let middle = 2 * (i as u32) + 1;
-    if pulls { middle - axis } else { axis - middle }
-}
-
-fn size(law: Law, pulls: bool, axis: Axis, i: u16) -> u64
-    requires { leb axis.x i ≡ pulls }
-    ensures { (result ≡ strip_size law pulls axis i) × (result < 65536) }
-{
-    law.concrete_size(pulls, axis.unit as u32 * reach(pulls, axis.x, i), axis.over)
-}
-
-// Whether law, axis and the end of a run are of a size that 64 bits hold the closed sums of, as every accepted section's are.
-fn fits(law: Law, axis: Axis, to: u16) -> bool
-    ensures { result ≡ fits law axis to }
-{
-    (0 < axis.over)
-        & (axis.over <= 22000)
-        & (0 < axis.unit)
-        & (axis.unit <= 50)
-        & (axis.x <= 2000)
-        & (to <= 2000)
-        & (law.fcd <= 28333)
-        & (law.s1 <= 10000)
-        & (law.s2 <= 10000)
-        & (law.s3 <= 10000)
-        & (0 < law.e1)
-        & (law.e1 < law.e2)
-        & (law.e2 < law.e3)
-        & (law.e3 <= 25000)
-}
-
-// Strips go by their places from the axis: at place j the reach is 2 j + 1. Of the places from..to the first whose reach times a rate is above
-// a limit; or `to`. The quotient is of 32 bits, which is quicker.
-fn cut(limit: u32, rate: u32, from: u64, to: u64) -> u64
-    requires { (0 < rate) × (limit < 2 ^ 31) }
-    ensures { result ≡ cut_at limit rate from to }
-{
-    most(from, least(((limit / rate + 1) / 2) as u64, to))
-}
-
-// The first of them beyond a strain.
-fn end(strain: u32, axis: Axis, from: u64, to: u64) -> u64
-    requires { (strain ≤ 25000) × (axis.over ≤ 22000) × (0 < axis.unit) }
-    ensures { result ≡ end_of strain axis from to }
-{
-    cut(
-        strain * (axis.over as u32),
-        500 * (axis.unit as u32),
-        from,
-        to,
-    )
-}
-
-// The sum of the reaches of the places from..to.
-fn odds(from: u64, to: u64) -> u64
-    requires { (from ≤ to) × (to ≤ 2000) }
-    ensures { (result ≡ odds from to) × (result ≤ 4000000) }
-{
-    to * to - from * from
+// The strips from..to under a law at an axis, of a size that 64 bits hold their closed sums, as every accepted section's are.
+#[derive(Clone, Copy)]
+struct Run {
+    law: Law,
+    axis: Axis,
+    from: u16,
+    to: u16,
+    ghost in_order: { from ≤ to },
+    ghost fits: { Fit law axis to },
 }
 
 fn thrice(n: u64) -> u64
@@ -127,80 +72,207 @@ fn thrice(n: u64) -> u64
     4 * (n * n * n) - n
 }
 
-// Three times the sum of their squares.
-fn squares(from: u64, to: u64) -> u64
-    requires { (from ≤ to) × (to ≤ 2000) }
-    ensures { (result ≡ squares from to) × (result ≤ 32000000000) }
-{
-    thrice(to) - thrice(from)
-}
+impl Places {
+    // Those up to the first whose reach times a rate is above a limit, and those from it on. The quotient is of 32 bits, which is quicker, and
+    // with `clamp`, which was tried, a list takes a sixth longer.
+    fn cut(self, limit: u32, rate: u32) -> (Places, Places)
+        requires { (0 < rate) × (limit < 2 ^ 31) }
+        ensures { (result.0.from ≡ self.from) × (result.0.to ≡ cut_at limit rate self.from self.to)
+            × (result.1.from ≡ result.0.to) × (result.1.to ≡ self.to) }
+    {
+        let at = self.to.min(((limit / rate + 1) / 2) as u64).max(self.from);
+        let within = Places {
+            from: self.from,
+            to: at,
+        };
+        let beyond = Places {
+            from: at,
+            to: self.to,
+        };
+        (within, beyond)
+    }
 
-// The places from..to on the parabola.
-fn pushed(fcd: u64, over: u64, unit: u64, from: u64, to: u64) -> u64
-    requires { OnParabola fcd over unit from to }
-    ensures { (result ≡ bent_sum fcd over unit from to) × (result < 2 ^ 62) }
-{
-    let line = fcd * unit * (24 * over) * odds(from, to);
-    let bend = fcd * unit * unit * squares(from, to);
-    (line - bend) / (48 * over * over)
-}
+    fn count(self) -> u64
+        ensures { result ≡ self.to - self.from }
+    {
+        self.to - self.from
+    }
 
-// The places from..to on the ramp from (ea, sa) to (eb, sb), rising or falling: both ends are weighed.
-fn ramp(ea: u64, sa: u64, eb: u64, sb: u64, over: u64, unit: u64, from: u64, to: u64) -> u64
-    requires { OnRamp ea sa eb sb over unit from to }
-    ensures { (result ≡ ramp_sum ea sa eb sb over unit from to) × (result < 2 ^ 60) }
-{
-    let strain = 500 * unit * odds(from, to);
-    let length = over * (to - from);
-    (sa * (eb * length) + sb * strain - (sa * strain + sb * (ea * length))) / ((eb - ea) * over)
-}
+    // The sum of their reaches.
+    fn odds(self) -> u64
+        ensures { (result ≡ odds self.from self.to) × (result ≤ 4000000) }
+    {
+        self.to * self.to - self.from * self.from
+    }
 
-// Compressed strips: those past the parabola's top bear fcd each, and are not rounded.
-fn pressed_most(law: Law, axis: Axis, from: u64, to: u64) -> Bound
-    requires { (Fit law axis to) × (from ≤ to) }
-    ensures { result ≡ pressed_bound law axis from to }
-{
-    let fcd = law.fcd as u64;
-    let top = cut(4 * (axis.over as u32), axis.unit as u32, from, to);
-    let bent = pushed(fcd, axis.over as u64, axis.unit as u64, from, top);
-    Bound {
-        most: fcd * (to - top) + bent,
-        rounded: top - from,
+    // Three times the sum of their squares.
+    fn squares(self) -> u64
+        ensures { (result ≡ squares self.from self.to) × (result ≤ 32000000000) }
+    {
+        thrice(self.to) - thrice(self.from)
     }
 }
 
-// Stretched strips: three ramps, each from where the last one ends, and nothing beyond e3.
-fn pulled_most(law: Law, axis: Axis, from: u64, to: u64) -> Bound
-    requires { (Fit law axis to) × (from ≤ to) }
-    ensures { result ≡ pulled_bound law axis from to }
-{
-    let over = axis.over as u64;
-    let unit = axis.unit as u64;
-    let e1 = law.e1 as u64;
-    let e2 = law.e2 as u64;
-    let s1 = law.s1 as u64;
-    let s2 = law.s2 as u64;
-    let end1 = end(law.e1, axis, from, to);
-    let end2 = end(law.e2, axis, end1, to);
-    let end3 = end(law.e3, axis, end2, to);
-    let one = ramp(0, 0, e1, s1, over, unit, from, end1);
-    let two = ramp(e1, s1, e2, s2, over, unit, end1, end2);
-    let three = ramp(e2, s2, law.e3 as u64, law.s3 as u64, over, unit, end2, end3);
-    Bound {
-        most: one + two + three,
-        rounded: end3 - from,
+impl Ramp {
+    // The one that goes on from its end, to (e, s).
+    fn on_to(self, e: u32, s: u32) -> Ramp
+        requires { (self.eb < e) × (e ≤ 25000) × (s ≤ 10000) }
+        ensures { (result.ea ≡ self.eb) × (result.sa ≡ self.sb) × (result.eb ≡ e) × (result.sb ≡ s) }
+    {
+        Ramp {
+            ea: self.eb,
+            sa: self.sb,
+            eb: e,
+            sb: s,
+        }
     }
+}
+
+impl Run {
+    // The strips from..to, none where `from` is past `to`; or nothing where law, axis or `to` are larger.
+    fn of(law: Law, axis: Axis, from: u16, to: u16) -> Option<Run>
+        ensures { MatchOption result (fits law axis to ≡ false)
+            (λ run. (fits law axis to ≡ true) × (run.law ≡ law) × (run.axis ≡ axis) × (run.from ≡ min from to) × (run.to ≡ to)) }
+    {
+        let fits = (0 < axis.over)
+            & (axis.over <= 22000)
+            & (0 < axis.unit)
+            & (axis.unit <= 50)
+            & (axis.x <= 2000)
+            & (to <= 2000)
+            & (law.fcd <= 28333)
+            & (law.s1 <= 10000)
+            & (law.s2 <= 10000)
+            & (law.s3 <= 10000)
+            & (0 < law.e1)
+            & (law.e1 < law.e2)
+            & (law.e2 < law.e3)
+            & (law.e3 <= 25000);
+        if !fits {
+            return None;
+        }
+        Some(Run {
+            law,
+            axis,
+            from: from.min(to),
+            to,
+        })
+    }
+
+    // Those above the axis, which press.
+    fn above(self) -> Places
+        ensures { (result.from ≡ self.axis.x - self.to) × (result.to ≡ self.axis.x - self.from) }
+    {
+        Places {
+            from: self.axis.x.saturating_sub(self.to) as u64,
+            to: self.axis.x.saturating_sub(self.from) as u64,
+        }
+    }
+
+    // Those below it, which pull.
+    fn below(self) -> Places
+        ensures { (result.from ≡ self.from - self.axis.x) × (result.to ≡ self.to - self.axis.x) }
+    {
+        Places {
+            from: self.from.saturating_sub(self.axis.x) as u64,
+            to: self.to.saturating_sub(self.axis.x) as u64,
+        }
+    }
+
+    // What places on the parabola bear.
+    fn bent(self, places: Places) -> u64
+        requires { OnParabola self.axis.over self.axis.unit places.from places.to }
+        ensures { (result ≡ bent_sum self.law.fcd self.axis.over self.axis.unit places.from places.to) × (result < 2 ^ 62) }
+    {
+        let fcd = self.law.fcd as u64;
+        let over = self.axis.over as u64;
+        let unit = self.axis.unit as u64;
+        let line = fcd * unit * (24 * over) * places.odds();
+        let bend = fcd * unit * unit * places.squares();
+        (line - bend) / (48 * over * over)
+    }
+
+    // What places on a ramp bear: both of its ends are weighed.
+    fn slanted(self, ramp: Ramp, places: Places) -> u64
+        requires { OnRamp ramp.ea ramp.eb self.axis.over self.axis.unit places.from places.to }
+        ensures { (result ≡ ramp_sum ramp.ea ramp.sa ramp.eb ramp.sb self.axis.over self.axis.unit places.from places.to)
+            × (result < 2 ^ 60) }
+    {
+        let (ea, sa) = (ramp.ea as u64, ramp.sa as u64);
+        let (eb, sb) = (ramp.eb as u64, ramp.sb as u64);
+        let over = self.axis.over as u64;
+        let strain = 500 * (self.axis.unit as u64) * places.odds();
+        let length = over * places.count();
+        (sa * (eb * length) + sb * strain - (sa * strain + sb * (ea * length))) / ((eb - ea) * over)
+    }
+
+    // What the places up to a ramp's end bear, and those beyond it.
+    fn along(self, ramp: Ramp, places: Places) -> (u64, Places)
+        requires { Past ramp.ea self.axis.over self.axis.unit places.from places.to }
+        ensures { let at = end_of ramp.eb self.axis places.from places.to in
+            (result.0 ≡ ramp_sum ramp.ea ramp.sa ramp.eb ramp.sb self.axis.over self.axis.unit places.from at) × (result.0 < 2 ^ 60)
+            × (result.1.from ≡ at) × (result.1.to ≡ places.to) × Past ramp.eb self.axis.over self.axis.unit at places.to }
+    {
+        let (on, beyond) = places.cut(
+            ramp.eb * (self.axis.over as u32),
+            500 * (self.axis.unit as u32),
+        );
+        (self.slanted(ramp, on), beyond)
+    }
+
+    // Compressed strips: those past the parabola's top bear fcd each, and are not rounded.
+    fn pressed(self) -> Bound
+        ensures { (result ≡ pressed_bound self.law self.axis (self.axis.x - self.to) (self.axis.x - self.from))
+            × (result.most ≤ 140000000) × (result.rounded ≤ 2000) }
+    {
+        let (bent, level) = self
+            .above()
+            .cut(4 * (self.axis.over as u32), self.axis.unit as u32);
+        Bound {
+            most: self.law.fcd as u64 * level.count() + self.bent(bent),
+            rounded: bent.count(),
+        }
+    }
+
+    // Stretched strips: three ramps, each from where the last one ends, and nothing beyond e3.
+    fn pulled(self) -> Bound
+        ensures { (result ≡ pulled_bound self.law self.axis (self.from - self.axis.x) (self.to - self.axis.x))
+            × (result.most ≤ 140000000) × (result.rounded ≤ 2000) }
+    {
+        let law = self.law;
+        let first = Ramp {
+            ea: 0,
+            sa: 0,
+            eb: law.e1,
+            sb: law.s1,
+        };
+        let second = first.on_to(law.e2, law.s2);
+        let third = second.on_to(law.e3, law.s3);
+        let places = self.below();
+        let (one, past_first) = self.along(first, places);
+        let (two, past_second) = self.along(second, past_first);
+        let (three, past_third) = self.along(third, past_second);
+        Bound {
+            most: one + two + three,
+            rounded: past_third.from - places.from,
+        }
+    }
+}
+
+// How far a strip's middle lies from the axis.
+fn reach(x: u16, i: u16) -> u32
+    ensures { (result ≡ reach (leb x i) x i) × (result ≤ 131071) }
+{
+    (2 * (i as u32) + 1).abs_diff(2 * (x as u32))
 }
 
 // The stress of a strip, rounded, with its sign.
 pub fn strip(law: Law, axis: Axis, i: u16) -> i64
     ensures { result ≡ strip_at law axis i }
 {
-    if axis.x <= i {
-        -(size(law, true, axis, i) as i64)
-    } else {
-        size(law, false, axis, i) as i64
-    }
+    let pulls = axis.x <= i;
+    let size = law.concrete_size(pulls, axis.unit as u32 * reach(axis.x, i), axis.over) as i64;
+    if pulls { -size } else { size }
 }
 
 // Bounds of the sum of the rounded stresses of the strips from..to, `to` not among them, with their signs: the strips above the axis press,
@@ -209,17 +281,14 @@ pub fn strip(law: Law, axis: Axis, i: u16) -> i64
 pub fn bounds(law: Law, axis: Axis, from: u16, to: u16) -> Range
     ensures { result ≡ bounds_of law axis from to }
 {
-    if !fits(law, axis, to) {
+    let Some(run) = Run::of(law, axis, from, to) else {
         return Range {
             low: -4294967296,
             high: 4294967296,
         };
-    }
-    let x = axis.x as u64;
-    let last = to as u64;
-    let first = least(from as u64, last);
-    let push = pressed_most(law, axis, beyond(x, last), beyond(x, first));
-    let pull = pulled_most(law, axis, beyond(first, x), beyond(last, x));
+    };
+    let push = run.pressed();
+    let pull = run.pulled();
     let apart = push.most as i64 - pull.most as i64;
     Range {
         low: apart - push.rounded as i64,

@@ -22,7 +22,7 @@ use Rattle.record.proofs.Inverse.{filed_section}
 use Rattle.book.specs.Book.{index_of, count_of, start_of, part_of}
 use Rattle.book.specs.Good.{GoodBook, Shows}
 use Rattle.writer.specs.Records.{part_from, place_at, section_at, refusal_at, count_in, records_refusal}
-use Rattle.writer.specs.Written.{written_record, records_of, place_of, last_bytes, book_in, write_refusal, written, write_answer, book_after}
+use Rattle.writer.specs.Written.{written_record, records_of, place_of, last_bytes, book_in, write_refusal, book_after}
 use Rattle.writer.proofs.Walk.{count_is, all_below_is}
 use Rattle.writer.proofs.Strings.{records_length}
 use Rattle.writer.proofs.Books.{book_is}
@@ -169,7 +169,9 @@ module _ (s : List ℕ) (good : GoodBook s) (bytes : Bytes s) where
 
       pub back_answer :
           (before : List ℕ) → length s ≤ length before
-          → (write_answer (joined parts n) (length before) ≡ written (length s)) × (take (length s) (book_after (joined parts n) before) ≡ s)
-      unfolding write_refusal write_answer book_after
+          → (write_refusal (joined parts n) (length before) ≡ 0) × (length (book_in (joined parts n)) ≡ length s)
+          × (take (length s) (book_after (joined parts n) before) ≡ s)
+      unfolding write_refusal book_after
       back_answer before h =
-          rw (written_back.1, written_back.0, le-leb (length s) (length before) h, le-leb (length s) 65536 good.sized.0.1) (refl, over_front s before)
+          rw (written_back.1, written_back.0, le-leb (length s) (length before) h, le-leb (length s) 65536 good.sized.0.1)
+          (refl, refl, over_front s before)

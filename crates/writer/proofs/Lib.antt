@@ -1,7 +1,8 @@
-mod Walk
-mod Puts
+pub mod Walk
+pub mod Puts
 pub mod Strings
-pub mod Layers
+pub mod Turns
 pub mod Books
+pub mod Layers
 pub mod Reading
 pub mod Back

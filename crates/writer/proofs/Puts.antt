@@ -4,7 +4,7 @@ use mathlib.Core.Path.{◌≡◌, sym, ap, ◌∙◌}
 use mathlib.Core.List.{List, [], ◌++◌, append_assoc, append-nil}
 use native.Mathlib.Omega.{arith}
 use lib.ListN.{length, take, drop, length-append, take-append-drop}
-use lib.Seq.{paste, take-length, take_at, length-take-le, drop-append-add, drop-drop}
+use lib.Seq.{take_at, length-take-le, drop-append-add, drop-drop}
 use Rattle.arith.specs.Joined.{over}
 use Rattle.arith.proofs.Joined.{over_length}
 use Rattle.writer.specs.Code.{put_at}
@@ -16,10 +16,6 @@ put_length at bytes book h =
 -- no bytes
 pub put_none : (at : ℕ) (book : List ℕ) → at ≤ length book → book ≡ put_at at [] book
 put_none at book h = rw (append-nil (take at book), length-take-le at book h) (sym (take-append-drop at book))
-
--- the copy of all bytes
-pub pasted : (book : List ℕ) (at : ℕ) (bytes : List ℕ) → at ≤ length book → paste book at bytes (length bytes) ≡ put_at at bytes book
-pasted book at bytes h = rw (take-length bytes, length-append (take at book) bytes, length-take-le at book h)
 
 -- what is put where what was put before ends
 pub put_on : (p ws l : List ℕ) (k : ℕ) → length p ≡ k → put_at k ws (over p l) ≡ over (p ++ ws) l

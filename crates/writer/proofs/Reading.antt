@@ -26,8 +26,7 @@ use Rattle.book.proofs.Good.{is_good}
 use Rattle.book.proofs.Parts.{part_is}
 use Rattle.writer.specs.Records.{part_from, place_at, section_at}
 use Rattle.writer.specs.Written.{written_record, records_of, place_of, last_bytes, book_of}
-use Rattle.writer.specs.Code.{Tallied}
-use Rattle.writer.proofs.Strings.{passes_there, few_there}
+use Rattle.writer.proofs.Strings.{Tallied, passes_there, few_there}
 use Rattle.writer.proofs.Books.{front_length, of_length}
 
 -- a number that was put behind some bytes
@@ -60,7 +59,9 @@ module _ (s : ℕ → Section) (n : ℕ) where
   unfolding book_of
   stated_is =
       let head = bytes32 (P n) ++ bytes32 n in
-      number_at (front ++ head) (P n + 4 * n + 16) _ _ (sym (append_assoc front head _)) (omega (arith, of_length s n, front_length s n, length-append front head)) ∙ sym (of_length s n)
+      number_at (front ++ head) (P n + 4 * n + 16) _ _ (sym (append_assoc front head _))
+      (omega (arith, of_length s n, front_length s n, length-append front head))
+      ∙ sym (of_length s n)
 
   letter : (k : ℕ) → k ≤ 4 → byte_from_end (book_of s n) k ≡ get_or (last_bytes (P n) n) (16 - k) 0
   unfolding book_of
@@ -77,13 +78,16 @@ module _ (s : ℕ → Section) (n : ℕ) where
   placed i h =
       let before = joined (place_of s) i in
       let behind = joined (after (i + 1) (place_of s)) (n - (i + 1)) in
-      let split : book_of s n ≡ records_of s n ++ before ++ (bytes32 (P i) ++ (behind ++ last_bytes (P n) n)) = rw (joined_at (place_of s) n i h) (simp append_assoc) in
-      number_at (records_of s n ++ before) (P i) (behind ++ last_bytes (P n) n) (P n + 4 * i) split
+      let rest = behind ++ last_bytes (P n) n in
+      let split : book_of s n ≡ records_of s n ++ before ++ (bytes32 (P i) ++ rest) = rw (joined_at (place_of s) n i h) (simp append_assoc) in
+      number_at (records_of s n ++ before) (P i) rest (P n + 4 * i) split
       (omega (arith, length-append (records_of s n) before, joined_length (place_of s) 4 i (λ j k. refl)))
 
   start_is : (i : ℕ) → i ≤ n → start_of (book_of s n) i ≡ P i
   unfolding start_of
-  start_is i h = rw (count_is, index_is) (⊎_elim (λ q. rw (lt-ltb i n q) (placed i q)) (λ q. let e : n ≡ i = omega arith in rw (le-ltb i n q, e)) (less_or_not i n))
+  start_is i h =
+      rw (count_is, index_is)
+      (⊎_elim (λ q. rw (lt-ltb i n q) (placed i q)) (λ q. let e : n ≡ i = omega arith in rw (le-ltb i n q, e)) (less_or_not i n))
 
   -- ---- a record
   module _ (i : ℕ) (h : i < n) (few : (as_written (s i)).count ≤ 8) where
@@ -110,7 +114,9 @@ module _ (s : ℕ → Section) (n : ℕ) where
     stands : StandsIn (book_of s n) i
     stands = record {
       few = rw layers_are few;
-      inside = rw (end_is, index_is, joined_next (written_record s) i, length-append (records_of s i) (written_record s i)) (joined_ends (written_record s) n i h);
+      inside =
+          rw (end_is, index_is, joined_next (written_record s) i, length-append (records_of s i) (written_record s i))
+          (joined_ends (written_record s) n i h);
       meets = rw end_is (sym (start_is (i + 1) (omega arith)));
     }
 
@@ -128,7 +134,9 @@ module _ (s : ℕ → Section) (n : ℕ) where
     unfolding asked_refusal book_of
     part_filed i h =
         let asked : asked_refusal (book_of s n) i ≡ 0 = rw (is_good (book_of s n) book_good, count_is, lt-ltb i n h) in
-        part_is (book_of s n) i asked ∙ rw (size_is i h (few i h), start_is i (omega arith), append_assoc (records_of s n) places (last_bytes (P n) n)) (joined_part (written_record s) n i h _)
+        part_is (book_of s n) i asked
+        ∙ rw (size_is i h (few i h), start_is i (omega arith), append_assoc (records_of s n) places (last_bytes (P n) n))
+        (joined_part (written_record s) n i h _)
 
     pub count_there : count_of (book_of s n) ≡ n
     count_there = count_is
@@ -142,4 +150,5 @@ module _ {r : List ℕ} {n : ℕ} (t : Tallied r n) (i : ℕ) (h : i < n) where
       let s = section_at r i in
       let load = load_small s.load ((accepted_exactly s).0 p.1).load in
       let few = few_there t i h in
-      ((record_stands (written_record (section_at r) i)).1 (filed_stands (as_written s) few), section_filed (as_written s) few load ∙ written_cleared (part_from r (place_at r i)))
+      let read = section_filed (as_written s) few load ∙ written_cleared (part_from r (place_at r i)) in
+      ((record_stands (written_record (section_at r) i)).1 (filed_stands (as_written s) few), read)

@@ -16,14 +16,14 @@ use Rattle.arith.proofs.Joined.{over_length, joined_next, joined_length}
 use Rattle.arith.proofs.Lines.{none_of}
 use Rattle.section.specs.Refusal.{section_refusal}
 use Rattle.record.specs.Record.{size_at, record_refusal, section_in}
-use Rattle.record.specs.Filed.{bytes32, as_written, filed_answer}
+use Rattle.record.specs.Filed.{bytes32, as_written}
 use Rattle.record.proofs.Alone.{record_stands}
-use Rattle.record.specs.declared.RecordBytes.{RecordBytes}
-use Rattle.record.proofs.Inverse.{filed_length, Front, filed_front}
-use Rattle.writer.specs.Records.{part_from, place_at, section_at, refusal_at, begins, count_in}
+use Rattle.record.proofs.Inverse.{filed_length}
+use Rattle.writer.specs.declared.Sections.{Sections}
+use Rattle.writer.specs.Records.{part_from, place_at, section_at, refusal_at, begins, lone_refusal, count_in, records_refusal}
 use Rattle.writer.specs.Written.{written_record, records_of, place_of, last_bytes}
-use Rattle.writer.specs.Code.{put_at, Tallied}
-use Rattle.writer.proofs.Walk.{part_size, ends_inside, place_first, place_next, places_rise, counted, stops, begins_none, none_below}
+use Rattle.writer.specs.Code.{put_at}
+use Rattle.writer.proofs.Walk.{part_size, ends_inside, place_first, place_next, place_least, places_rise, counted, stops, begins_none, none_below}
 use Rattle.writer.proofs.Puts.{put_on, put_put}
 
 -- ---- one that is counted begins inside
@@ -62,7 +62,19 @@ module _ (r : List ℕ) where
   records_length zero = refl
   records_length (suc i) = rw (length-append (records_of (section_at r) i) (written_record (section_at r) i), records_length i, record_length i)
 
--- ---- where all pass
+-- ---- a record that passes
+pub few_in : (part : List ℕ) → lone_refusal part ≡ 0 → (section_in part).count ≤ 8
+unfolding section_in
+few_in part e = ((record_stands part).0 (none_of (record_refusal part) _ e).0).1
+
+-- ---- where all pass, counted
+pub record Tallied (r : List ℕ) (n : ℕ) : Type 0 where
+  pub none : records_refusal r ≡ 0
+  pub count : n ≡ count_in r
+
+pub tallied : (s : Sections) → Tallied s.records.now s.count
+tallied s = record { none = s.none; count = s.counted }
+
 module _ {r : List ℕ} {n : ℕ} (t : Tallied r n) where
   module _ (i : ℕ) (h : i < n) where
     pub begins_there : place_at r i < length r
@@ -78,12 +90,6 @@ module _ {r : List ℕ} {n : ℕ} (t : Tallied r n) where
     unfolding as_written section_in
     few_there = ((record_stands _).0 passes_there.0).1
 
-    -- and is filed so
-    pub filed_there : {x : RecordBytes} → x ≡ filed_answer (as_written (section_at r i)) → Front (as_written (section_at r i)) x × (x.len ≡ size_at r (place_at r i))
-    filed_there is =
-        let f = filed_front (as_written (section_at r i)) is few_there in
-        (f, f.len ∙ sym (filed_length (as_written (section_at r i))) ∙ record_length r i)
-
   pub ends_by : (i : ℕ) → i ≤ n → place_at r i ≤ length r
   ends_by zero h = omega (arith, place_first r)
   ends_by (suc i) h = rw (← (add-one i)) (ends_there i h)
@@ -96,11 +102,18 @@ module _ {r : List ℕ} {n : ℕ} (t : Tallied r n) where
   pub records_kept : (b : List ℕ) (i : ℕ) → i ≤ n → length r ≤ length b → length (over (records_of (section_at r) i) b) ≡ length b
   records_kept b i h room = over_length (records_of (section_at r) i) b (omega (arith, records_length r i, ends_by i h))
 
+-- each has 24 bytes at least
+pub few_records : (s : Sections) → 24 * s.count ≤ length s.records.now
+few_records s = omega (arith, place_least s.records.now s.count, ends_with (tallied s))
+
 -- ---- what is put into a book, one record after another and one place after another
 module _ (r b : List ℕ) (i at : ℕ) (e : at ≡ place_at r i) where
-  pub record_on : (ws book : List ℕ) → ws ≡ written_record (section_at r) i → book ≡ over (records_of (section_at r) i) b → put_at at ws book ≡ over (records_of (section_at r) (i + 1)) b
+  pub record_on :
+      (ws book : List ℕ) → ws ≡ written_record (section_at r) i → book ≡ over (records_of (section_at r) i) b
+      → put_at at ws book ≡ over (records_of (section_at r) (i + 1)) b
   record_on ws book f g =
-      rw (f, g, joined_next (written_record (section_at r)) i) (put_on (records_of (section_at r) i) (written_record (section_at r) i) b at (records_length r i ∙ sym e))
+      let s = section_at r in
+      rw (f, g, joined_next (written_record s) i) (put_on (records_of s i) (written_record s i) b at (records_length r i ∙ sym e))
 
   pub place_on :
       (book : List ℕ) → length r ≤ length b → book ≡ put_at (length r) (joined (place_of (section_at r)) i) b
@@ -121,6 +134,7 @@ pub last_on :
     → b4 ≡ put_at k (last_bytes index n) b
 last_on index n k b h p q s t =
     let two = q ∙ ap (put_at (k + 4) (bytes32 n)) p ∙ put_put k (bytes32 index) (bytes32 n) b (k + 4) h refl in
-    let three = s ∙ ap (put_at (k + 8) (bytes32 (index + 4 * n + 16))) two ∙ put_put k (bytes32 index ++ bytes32 n) (bytes32 (index + 4 * n + 16)) b (k + 8) h refl in
+    let stated = bytes32 (index + 4 * n + 16) in
+    let three = s ∙ ap (put_at (k + 8) stated) two ∙ put_put k (bytes32 index ++ bytes32 n) stated b (k + 8) h refl in
     t ∙ ap (put_at (k + 12) (66 ∷ 79 ∷ 79 ∷ 75 ∷ [])) three
-    ∙ put_put k (bytes32 index ++ bytes32 n ++ bytes32 (index + 4 * n + 16)) (66 ∷ 79 ∷ 79 ∷ 75 ∷ []) b (k + 12) h refl
+    ∙ put_put k (bytes32 index ++ bytes32 n ++ stated) (66 ∷ 79 ∷ 79 ∷ 75 ∷ []) b (k + 12) h refl

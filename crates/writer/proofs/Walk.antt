@@ -1,19 +1,22 @@
 -- The records of a string, one after another: where they begin, how many they are, and the first that is refused. Assumes nothing.
 use Prim.Native.Nat.{ℕ, zero, suc, ◌+◌, ◌*◌, ◌-◌, ◌≤◌, ◌<◌}
 use mathlib.Core.Path.{◌≡◌, refl, sym, ap, ◌∙◌}
-use mathlib.Core.List.{List}
+use mathlib.Core.List.{List, []}
 use mathlib.Core.Logic.{⊎_elim}
 use native.Mathlib.Nat.{add_assoc, add-zero, add-suc, eq-or-lt_of_le}
 use native.Mathlib.Numerals.{add-one}
 use native.Mathlib.Omega.{arith}
 use lib.ListN.{length, get_or, drop, length-take, length-drop}
-use lib.Seq.{get_or-take, get_or-drop}
+use lib.Seq.{get_or-take, get_or-drop, drop-drop}
 use borrow.Author.Tests.{lt-ltb, le-ltb, ne_eqb}
 use Rattle.arith.specs.Sums.{sum_n}
 use Rattle.arith.proofs.Lines.{none_of}
+use Rattle.refusal.specs.declared.Refusal.{Refusal}
+use Rattle.refusal.specs.Refusal.{number}
+use Rattle.refusal.proofs.Answers.{number_in}
 use Rattle.record.specs.Record.{size_at, record_refusal}
 use Rattle.record.proofs.Alone.{record_stands}
-use Rattle.writer.specs.Records.{part_from, place_at, refusal_at, begins, count_in, first_below, records_refusal}
+use Rattle.writer.specs.Records.{part_from, lone_refusal, place_at, refusal_at, begins, count_in, first_below, records_refusal}
 
 -- ---- the record that begins at a place
 module _ (r : List ℕ) (at : ℕ) where
@@ -23,7 +26,14 @@ module _ (r : List ℕ) (at : ℕ) where
 
   pub part_size : size_at (part_from r at) 0 ≡ size_at r at
   part_size =
-      rw (head_there 20 (omega arith), head_there 21 (omega arith), head_there 22 (omega arith), head_there 23 (omega arith), add_assoc at 20 1, add_assoc at 22 1)
+      rw (
+        head_there 20 (omega arith),
+        head_there 21 (omega arith),
+        head_there 22 (omega arith),
+        head_there 23 (omega arith),
+        add_assoc at 20 1,
+        add_assoc at 22 1,
+      )
 
   -- where it is not refused, it ends in the string
   pub ends_inside : record_refusal (part_from r at) ≡ 0 → at ≤ length r → at + size_at r at ≤ length r
@@ -137,3 +147,62 @@ module _ (r : List ℕ) (n : ℕ) (before : first_below n (refusal_at r) ≡ 0) 
   -- and at the end there is none
   pub none_refused : place_at r n ≡ length r → records_refusal r ≡ 0
   none_refused e = rw (count_is r n e) before
+
+-- ---- what is left after n records
+module _ (r : List ℕ) (n : ℕ) {rest : List ℕ} (left : rest ≡ drop (place_at r n) r) where
+  size_left : size_at rest 0 ≡ size_at r (place_at r n)
+  size_left =
+      let at = place_at r n in
+      let read : (j : ℕ) → get_or rest j 0 ≡ get_or r (at + j) 0 = λ j. rw left (get_or-drop at r j 0) in
+      rw (read 20, read 21, read 22, read 23, add_assoc at 20 1, add_assoc at 22 1)
+
+  pub part_left : {part : List ℕ} → part ≡ part_from rest 0 → part ≡ part_from r (place_at r n)
+  part_left is = is ∙ rw (size_left, left)
+
+  pub rest_left : {next : List ℕ} → next ≡ drop (size_at rest 0) rest → next ≡ drop (place_at r (n + 1)) r
+  rest_left is = rw (is, size_left, left, drop-drop (size_at r (place_at r n)) (place_at r n) r, place_next r n)
+
+  pub some_left : 0 < length rest → place_at r n < length r
+  some_left h = omega (arith, ap length left, length-drop (place_at r n) r)
+
+  pub none_left : rest ≡ [] → length r ≤ place_at r n
+  none_left e = omega (arith, ap length left, ap length e, length-drop (place_at r n) r)
+
+-- and none of them is refused
+pub record Passed (r : List ℕ) (n : ℕ) (rest : List ℕ) : Type 0 where
+  pub inside : place_at r n ≤ length r
+  pub left : rest ≡ drop (place_at r n) r
+  pub none : first_below n (refusal_at r) ≡ 0
+
+pub passed_first : {r rest : List ℕ} → rest ≡ r → Passed r 0 rest
+unfolding first_below
+passed_first {r} is = record { inside = rw (place_first r) (omega arith); left = rw (place_first r) is; none = refl }
+
+module _ {r : List ℕ} {n : ℕ} {rest : List ℕ} (p : Passed r n rest) where
+  pub passed_all : rest ≡ [] → (records_refusal r ≡ 0) × (n ≡ count_in r)
+  passed_all e =
+      let end : place_at r n ≡ length r = omega (arith, none_left r n p.left e, p.inside) in
+      (none_refused r n p.none end, sym (count_is r n end))
+
+  module _ {part : List ℕ} (some : 0 < length rest) (is : part ≡ part_from rest 0) where
+    refusal_is : lone_refusal part ≡ refusal_at r n
+    refusal_is = ap lone_refusal (part_left r n p.left is)
+
+    pub counts : n < length r
+    counts = omega (arith, some_left r n p.left some, place_least r n)
+
+    pub refused_next : (e : Refusal) → number e ≡ lone_refusal part → records_refusal r ≡ number e
+    refused_next e h =
+        refused_there r n p.none (some_left r n p.left some) (λ z. omega (arith, (number_in e).0, h, refusal_is)) ∙ sym (h ∙ refusal_is)
+
+    pub passed_next : {next : List ℕ} → lone_refusal part ≡ 0 → next ≡ drop (size_at rest 0) rest → Passed r (n + 1) next
+    passed_next ok e =
+        let none : refusal_at r n ≡ 0 = sym refusal_is ∙ ok in
+        let one = (none_of (record_refusal (part_from r (place_at r n))) _ none).0 in
+        record {
+          inside = rw (place_next r n) (ends_inside r (place_at r n) one p.inside);
+          left = rest_left r n p.left e;
+          none = first_next (refusal_at r) n p.none ∙ none;
+        }
+
+pub ruleset passes = (passed_first, passed_all, counts, refused_next, passed_next)

@@ -12,8 +12,11 @@ use Rattle.book.specs.Book.{part_of}
 abbrev pub part_from : List ℕ → ℕ → List ℕ
 part_from r at = part_of r at (size_at r at)
 
+abbrev pub lone_refusal : List ℕ → ℕ
+lone_refusal part = first_of (record_refusal part) (section_refusal (section_in part))
+
 abbrev pub refusal_from : List ℕ → ℕ → ℕ
-refusal_from r at = first_of (record_refusal (part_from r at)) (section_refusal (section_in (part_from r at)))
+refusal_from r at = lone_refusal (part_from r at)
 
 -- where record i begins: where the one before it ends
 unfoldable pub place_at : List ℕ → ℕ → ℕ

@@ -6,9 +6,8 @@ use Rattle.arith.specs.Lines.{line, first_of}
 use Rattle.section.specs.declared.Layer.{Layer}
 use Rattle.section.specs.declared.Section.{Section}
 use Rattle.section.specs.Added.{layer_refusal, with_layer}
-use Rattle.record.specs.Record.{record_size, of_record}
+use Rattle.record.specs.Record.{record_size, record_refusal, section_in}
 use Rattle.record.specs.Filed.{bytes32, filed, as_written}
-use Rattle.writer.specs.declared.Written.{Written}
 use Rattle.writer.specs.Records.{section_at, count_in, records_refusal}
 
 -- ---- the book of n sections, of which s i is the one that is counted i
@@ -41,15 +40,6 @@ holds room size = leb size room && leb size 65536
 unfoldable pub write_refusal : List ℕ → ℕ → ℕ
 write_refusal r room = first_of (records_refusal r) (line (holds room (length (book_in r))) 19 0)
 
-abbrev pub written : ℕ → Written
-written len = record { refusal = 0; len = len }
-
-abbrev pub unwritten : ℕ → Written
-unwritten number = record { refusal = number; len = 0 }
-
-unfoldable pub write_answer : List ℕ → ℕ → Written
-write_answer r room = unless_refused (write_refusal r room) (written (length (book_in r))) unwritten
-
 -- the lent bytes afterwards: those past the book stay
 unfoldable pub book_after : List ℕ → List ℕ → List ℕ
 book_after r before = unless_refused (write_refusal r (length before)) (over (book_in r) before) (λ number. before)
@@ -61,14 +51,12 @@ layer_record s l = filed (with_layer s l)
 unfoldable pub add_refusal : Section → Layer → ℕ → ℕ
 add_refusal s l room = first_of (layer_refusal s l) (line (leb (record_size (s.count + 1) s.hf) room) 19 0)
 
-abbrev pub layer_answer : Section → Layer → ℕ → Written
-layer_answer s l room = unless_refused (add_refusal s l room) (written (record_size (s.count + 1) s.hf)) unwritten
+-- of a record that is handed over: 6 first; and how long it then is
+unfoldable pub added_refusal : List ℕ → Layer → ℕ → ℕ
+added_refusal r l room = first_of (record_refusal r) (add_refusal (section_in r) l room)
 
-abbrev pub layer_after : Section → Layer → List ℕ → List ℕ
-layer_after s l before = unless_refused (add_refusal s l (length before)) (over (layer_record s l) before) (λ number. before)
-
-unfoldable pub add_answer : List ℕ → Layer → ℕ → Written
-add_answer r l room = of_record r (λ s. layer_answer s l room) unwritten
+abbrev pub added_size : List ℕ → ℕ
+added_size r = record_size ((section_in r).count + 1) (section_in r).hf
 
 unfoldable pub record_after : List ℕ → Layer → List ℕ → List ℕ
-record_after r l before = of_record r (λ s. layer_after s l before) (λ number. before)
+record_after r l before = unless_refused (added_refusal r l (length before)) (over (layer_record (section_in r) l) before) (λ number. before)

@@ -1,224 +1,200 @@
 // Books written on the unit (document 02 [1]): a book out of sections, and a record with a layer added.
 #![tactic(auto)]
 
-ghost use Rattle.std.specs.Prelude.{◌≡◌, ◌+◌, ◌*◌, ◌≤◌, ◌<◌, length, take};
+ghost use Rattle.std.specs.Prelude.{◌≡◌, ◌+◌, ◌*◌, ◌≤◌, length, IfOk};
 ghost use Rattle.arith.specs.Joined.{joined};
-ghost use Rattle.record.specs.Record.{record_refusal, section_in};
-ghost use Rattle.record.specs.Filed.{bytes32, filed_answer, as_written};
-ghost use Rattle.writer.specs.Records.{part_from, refusal_from, section_at};
-ghost use Rattle.writer.specs.Written.{records_of, place_of, last_bytes, unwritten, write_answer, book_after, add_answer, record_after};
-ghost use Rattle.writer.specs.Code.{put_at, tally_of, Tallied};
+ghost use Rattle.refusal.specs.Refusal.{number_of, Answers};
+ghost use Rattle.section.specs.declared.Layer.{Layer};
+ghost use Rattle.record.specs.Record.{section_in};
+ghost use Rattle.record.specs.Filed.{bytes32, as_written, filed};
+ghost use Rattle.writer.specs.Records.{lone_refusal, section_at, count_in, records_refusal};
+ghost use Rattle.writer.specs.Written.{records_of, place_of, last_bytes, book_in, write_refusal, book_after, layer_record, added_refusal, added_size, record_after};
+ghost use Rattle.writer.specs.Code.{put_at, layered_refusal};
 
 use record::{RecordBytes, filed, record_of, section_of, size_at};
-
-#[repr(C)]
-#[derive(Clone, Copy)]
-pub struct Written {
-    pub refusal: u32,
-    pub len: u32,
-}
-
-// How many records a string has, and the first refusal of one.
-#[derive(Clone, Copy)]
-struct Tally {
-    refusal: u32,
-    count: usize,
-}
-
-fn refused(number: u32) -> Written
-    ensures { result ≡ unwritten number }
-{
-    Written {
-        refusal: number,
-        len: 0,
-    }
-}
+use refusal::Refusal;
 
 // ---- records out of a string
 
-// The bytes of the record that begins at a place; at the end what is left.
-fn part_at(records: &[u8], at: usize) -> &[u8]
-    requires { at < length records.now }
-    ensures { result.now ≡ part_from records.now at }
-{
-    let len = records.len();
-    let end = at + size_at(records, at);
-    if end < len {
-        return &records[at..end];
-    }
-    &records[at..len]
+// The records of a string, one after another: as many bytes as each says; at the end what is left.
+#[derive(Drop)]
+struct Records<'a> {
+    rest: &'a [u8],
 }
 
-// 6, then 7 to 13 with 20, or 0.
-fn refusal_at(records: &[u8], at: usize) -> u32
-    requires { at < length records.now }
-    ensures { result ≡ refusal_from records.now at }
-{
-    let read = section_of(part_at(records, at));
-    if read.refusal != 0 {
-        return read.refusal;
-    }
-    read.section.refusal()
-}
+impl<'a> Iterator for Records<'a> {
+    ghost use Rattle.std.specs.Iterator.{item_count};
+    ghost use Rattle.writer.specs.Code.{GivesPart};
 
-fn tally_of(records: &[u8]) -> Tally
-    ensures { result ≡ tally_of records.now }
-{
-    let len = records.len();
-    let mut at: usize = 0;
-    let mut count: usize = 0;
-    while at < len {
-        let refusal = refusal_at(records, at);
-        if refusal != 0 {
-            return Tally {
-                refusal: refusal,
-                count: 0,
-            };
+    type Item = &'a [u8];
+
+    ghost next_gives = { GivesPart };
+
+    ghost remaining = { item_count (λ s. s.rest.now) };
+
+    fn next(&mut self) -> Option<&'a [u8]> {
+        if self.rest.is_empty() {
+            return None;
         }
-        at = at + size_at(records, at);
-        count = count + 1;
+        let size = size_at(self.rest, 0).min(self.rest.len());
+        let (part, rest) = self.rest.split_at(size);
+        self.rest = rest;
+        Some(part)
     }
-    Tally {
-        refusal: 0,
-        count: count,
-    }
+}
+
+// 6 of a record, then 7 to 13 with 20 of its section.
+fn check(part: &[u8]) -> Result<(), Refusal>
+    ensures { number_of result ≡ lone_refusal part.now }
+{
+    section_of(part)?.check()
+}
+
+// A record that passes, as a book has it.
+#[tactic(auto, using(crate::proofs::Strings::few_in))]
+fn rewritten(part: &[u8]) -> RecordBytes
+    requires { lone_refusal part.now ≡ 0 }
+    ensures { result ≡ filed (as_written (section_in part.now)) }
+{
+    record_of(section_of(part).unwrap()).unwrap()
 }
 
 // ---- bytes into a book
 
+// From a place on.
 fn put(bytes: &[u8], book: &mut [u8], at: usize)
     requires { at + length bytes.now ≤ length book.old }
     ensures { book.new ≡ put_at at bytes.now book.old }
 {
-    let n = bytes.len();
-    for j in 0..n {
-        book[at + j] = bytes[j];
-    }
-}
-
-fn bytes_of(number: u32) -> [u8; 4]
-    ensures { result ≡ bytes32 number }
-{
-    let low = number % 65536;
-    let high = number / 65536;
-    [
-        (low % 256) as u8,
-        (low / 256) as u8,
-        (high % 256) as u8,
-        (high / 256) as u8,
-    ]
+    book[at..at + bytes.len()].copy_from_slice(bytes);
 }
 
 fn put_number(number: u32, book: &mut [u8], at: usize)
     requires { at + 4 ≤ length book.old }
     ensures { book.new ≡ put_at at (bytes32 number) book.old }
 {
-    let bytes = bytes_of(number);
-    put(&bytes[0..4], book, at);
-}
-
-fn put_record(filed: RecordBytes, book: &mut [u8], at: usize)
-    requires { (filed.len ≤ length filed.bytes) × (at + filed.len ≤ length book.old) }
-    ensures { book.new ≡ put_at at (take filed.len filed.bytes) book.old }
-{
-    let bytes = filed.bytes;
-    let len = filed.len as usize;
-    put(&bytes[0..len], book, at);
+    put(&number.to_le_bytes(), book, at);
 }
 
 // ---- a book
 
-// The record at a place, as a book has it.
-fn record_at(records: &[u8], at: usize) -> RecordBytes
-    requires { (at < length records.now) × (record_refusal (part_from records.now at) ≡ 0) }
-    ensures { result ≡ filed_answer (as_written (section_in (part_from records.now at))) }
-{
-    record_of(section_of(part_at(records, at)).section)
+// A string of records none of which is refused, and how many they are.
+#[derive(Clone, Copy)]
+struct Sections<'a> {
+    records: &'a [u8],
+    count: usize,
+    ghost none: { records_refusal records.now ≡ 0 },
+    ghost counted: { count ≡ count_in records.now },
 }
 
-// Each record stands in the book where it stands in the string.
-fn put_records(records: &[u8], count: usize, book: &mut [u8])
-    requires { (Tallied records.now count) × (length records.now ≤ length book.old) }
-    ensures { book.new ≡ put_at 0 (records_of (section_at records.now) count) book.old }
-{
-    let mut at: usize = 0;
-    for i in 0..count {
-        put_record(record_at(records, at), book, at);
-        at = at + size_at(records, at);
+impl<'a> Sections<'a> {
+    // Or the refusal of the first that is refused.
+    #[tactic(auto, using(crate::proofs::Walk::passes))]
+    fn of(records: &'a [u8]) -> Result<Sections<'a>, Refusal>
+        ensures number { number_of result ≡ records_refusal records.now }
+        ensures of { IfOk result (λ s. s.records.now ≡ records.now) }
+    {
+        let mut count = 0;
+        for part in (Records { rest: records }) {
+            check(part)?;
+            count += 1;
+        }
+        Ok(Sections { records, count })
+    }
+
+    fn parts(self) -> Records<'a>
+        ensures { result.rest.now ≡ self.entry.records.now }
+    {
+        Records { rest: self.records }
+    }
+
+    // The length of their book.
+    #[tactic(auto, using(crate::proofs::Strings::few_records))]
+    fn book_len(self) -> usize
+        ensures { result ≡ length self.entry.records.now + 4 * self.entry.count + 16 }
+    {
+        self.records.len() + 4 * self.count + 16
+    }
+
+    // Each record stands in the book where it stands in the string.
+    fn put_records(self, book: &mut [u8])
+        requires { length self.records.now ≤ length book.old }
+        ensures { book.new ≡ put_at 0 (records_of (section_at self.entry.records.now) self.entry.count) book.old }
+    {
+        let mut at = 0;
+        for part in self.parts() {
+            put(rewritten(part).as_slice(), book, at);
+            at += part.len();
+        }
+    }
+
+    fn put_index(self, book: &mut [u8])
+        requires room { length self.records.now + 4 * self.count ≤ length book.old }
+        requires few { length self.records.now ≤ 65536 }
+        ensures { book.new ≡ put_at (length self.entry.records.now) (joined (place_of (section_at self.entry.records.now)) self.entry.count) book.old }
+    {
+        let mut at = self.records.len();
+        let mut place = 0;
+        for part in self.parts() {
+            put_number(place, book, at);
+            place += part.len() as u32;
+            at += 4;
+        }
+    }
+
+    fn put_last(self, book: &mut [u8])
+        requires room { length self.records.now + 4 * self.count + 16 ≤ length book.old }
+        requires few { length self.records.now + 4 * self.count + 16 ≤ 65536 }
+        ensures { let index = length self.entry.records.now in book.new ≡ put_at (index + 4 * self.entry.count) (last_bytes index self.entry.count) book.old }
+    {
+        let index = self.records.len();
+        let len = self.book_len();
+        let at = index + 4 * self.count;
+        put_number(index as u32, book, at);
+        put_number(self.count as u32, book, at + 4);
+        put_number(len as u32, book, at + 8);
+        put(b"BOOK", book, at + 12);
     }
 }
 
-fn put_index(records: &[u8], count: usize, book: &mut [u8])
-    requires { (Tallied records.now count) × (length records.now + 4 * count ≤ length book.old) × (length records.now ≤ 65536) }
-    ensures { book.new ≡ put_at (length records.now) (joined (place_of (section_at records.now)) count) book.old }
+// The length of the book of the sections of a string of records; or 6, 7 to 13 with 20 of the first that is refused, or 19, and the lent
+// bytes as they were.
+pub fn write_book(records: &[u8], book: &mut [u8]) -> Result<u32, Refusal>
+    ensures answer { Answers (write_refusal records.now (length book.old)) (length (book_in records.now)) result }
+    ensures after { book.new ≡ book_after records.now book.old }
 {
-    let index = records.len();
-    let mut place: usize = 0;
-    for k in 0..count {
-        put_number(place as u32, book, index + 4 * k);
-        place = place + size_at(records, place);
+    let sections = Sections::of(records)?;
+    let len = sections.book_len();
+    if book.len().min(65536) < len {
+        return Err(Refusal::Room);
     }
-}
-
-fn put_last(index: u32, count: u32, book: &mut [u8])
-    requires { (index + 4 * count + 16 ≤ length book.old) × (index + 4 * count + 16 ≤ 65536) }
-    ensures { book.new ≡ put_at (index + 4 * count) (last_bytes index count) book.old }
-{
-    let at = index as usize + 4 * (count as usize);
-    put_number(index, book, at);
-    put_number(count, book, at + 4);
-    put_number(index + 4 * count + 16, book, at + 8);
-    let letters: [u8; 4] = [66, 79, 79, 75];
-    put(&letters[0..4], book, at + 12);
-}
-
-// A book of the sections of a string of records; or 6, 7 to 13 with 20 of the first that is refused, or 19, and the lent bytes as they were.
-pub fn write_book(records: &[u8], book: &mut [u8]) -> Written
-    ensures { (result ≡ write_answer records.now (length book.old)) × (book.new ≡ book_after records.now book.old) }
-{
-    let tally = tally_of(records);
-    if tally.refusal != 0 {
-        return refused(tally.refusal);
-    }
-    let index = records.len();
-    let count = tally.count;
-    let len = index + 4 * count + 16;
-    if book.len() < len {
-        return refused(19);
-    }
-    if 65536 < len {
-        return refused(19);
-    }
-    put_records(records, count, book);
-    put_index(records, count, book);
-    put_last(index as u32, count as u32, book);
-    Written {
-        refusal: 0,
-        len: len as u32,
-    }
+    sections.put_records(book);
+    sections.put_index(book);
+    sections.put_last(book);
+    Ok(len as u32)
 }
 
 // ---- a layer
 
-// A record with one layer more; or 6, 12 or 19, and the lent bytes as they were.
-pub fn add_layer(part: &[u8], depth: u16, area: u16, out: &mut [u8]) -> Written
-    ensures { (result ≡ add_answer part.now (record { depth = depth; area = area }) (length out.old)) × (out.new ≡ record_after part.now (record { depth = depth; area = area }) out.old) }
+// A record with one layer more; or 6 or 12.
+#[tactic(auto, using(crate::proofs::Layers::few_layers))]
+fn layer_record(part: &[u8], depth: u16, area: u16) -> Result<RecordBytes, Refusal>
+    ensures { let l : Layer = record { depth = depth; area = area } in Answers (layered_refusal part.now l) (layer_record (section_in part.now) l) result }
 {
-    let answer = section_of(part);
-    if answer.refusal != 0 {
-        return refused(answer.refusal);
+    let section = section_of(part)?;
+    filed(section.with_layer(depth, area)?)
+}
+
+// The length of a record with one layer more; or 6, 12 or 19, and the lent bytes as they were.
+pub fn add_layer(part: &[u8], depth: u16, area: u16, out: &mut [u8]) -> Result<u32, Refusal>
+    ensures answer { Answers (added_refusal part.now (record { depth = depth; area = area }) (length out.old)) (added_size part.now) result }
+    ensures after { out.new ≡ record_after part.now (record { depth = depth; area = area }) out.old }
+{
+    let record = layer_record(part, depth, area)?;
+    let bytes = record.as_slice();
+    if out.len() < bytes.len() {
+        return Err(Refusal::Room);
     }
-    let added = answer.section.with_layer(depth, area);
-    if added.refusal != 0 {
-        return refused(added.refusal);
-    }
-    let record = filed(added.section);
-    if out.len() < record.len as usize {
-        return refused(19);
-    }
-    put_record(record, out, 0);
-    Written {
-        refusal: 0,
-        len: record.len,
-    }
+    put(bytes, out, 0);
+    Ok(bytes.len() as u32)
 }

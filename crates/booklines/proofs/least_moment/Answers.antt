@@ -1,24 +1,18 @@
--- `least_moment`: the lesser of what was found and the next.
-use Rattle.std.proofs.Common.{◌+◌, ◌*◌, pos, get_or, arith}
-use mathlib.Core.Path.{◌∙◌}
-use borrow.Author.Rules.{rules}
-use Rattle.arith.proofs.Machine.{read}
-use Rattle.booklines.specs.Line.{least_to}
-use Rattle.booklines.proofs.Least.{least_falls, least_stays}
+-- `least_moment`: what `min` finds is not above any moment.
+use Rattle.std.proofs.Common.{◌≡◌, ◌+◌, ◌*◌, ◌<◌, Some, pos, get_or, arith}
+use Rattle.std.specs.Option.{option_map}
+use Rattle.std.proofs.lemmas.Grind.{common_steps}
+use Rattle.std.proofs.lemmas.Int.{ints}
+use Rattle.booklines.proofs.Least.{below_item}
 use Rattle.booklines.proofs.least_moment.Goals as goal
 
-pub loop-j-init : goal.loop-j-init
-unfolding least_to
-loop-j-init c = (omega arith, read {z = get_or c.args.row.now 2 (pos 0)} (record { sfits = search rules }))
-
-pub loop-j-preserved-then-moment-least : goal.loop-j-preserved-then-moment-least
-loop-j-preserved-then-moment-least c =
-    let l = c.loop-j in
-    let m = read {z = get_or c.args.row.now (3 * (l.j + 1) + 2) (pos 0)} (record { sfits = search rules }) in
-    (omega arith, m ∙ least_falls _ l.j (rw (m, l.invariant.1) at c.if-moment-least.true))
-
-pub loop-j-preserved : goal.loop-j-preserved
-loop-j-preserved c =
-    let l = c.loop-j in
-    let m = read {z = get_or c.args.row.now (3 * (l.j + 1) + 2) (pos 0)} (record { sfits = search rules }) in
-    (omega arith, l.invariant.1 ∙ least_stays _ l.j (rw (m, l.invariant.1) at c.if-moment-least.false))
+pub returns-clause-none_below : goal.returns-clause-none_below
+returns-clause-none_below c j h =
+    let least = c.min.ensures.runs in
+    let stepped = c.step_by.ensures.runs least.0 least.0.seen least.1 in
+    let q = stepped.0 in
+    let long : j * 3 < q.len = grind (arith, common_steps, c.iter.ensures, c.requires) in
+    let is : get_or q.from.rest.now (j * 3) (pos 0) ≡ get_or c.args.words.now (3 * j + 2) (pos 0) = grind (arith, common_steps) in
+    let at : option_map (λ y. y.now) (least.0.at j) ≡ Some (get_or c.args.words.now (3 * j + 2) (pos 0)) =
+    rw (stepped.2.4 j, ← is) ((c.iter.ensures.runs q q.seen).2 (j * 3) (pos 0) long) in
+    omega (arith, ints, below_item _ _ _ ((rw c.unwrap.ensures at least.3).1 j) at)

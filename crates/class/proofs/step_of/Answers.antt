@@ -1,28 +1,19 @@
--- `step_of`: at each rung the answer is the better of the step so far and of the rungs to come.
-use mathlib.Core.Path.{◌≡◌}
-use native.Mathlib.Omega.{arith}
+-- `step_of`: the largest of the steps that are at most fR1.
+use Rattle.std.proofs.Common.{rules, ◌∙◌, sym, leb}
+use Rattle.std.proofs.lemmas.Iterator.{YieldsList-from_slice}
+use Rattle.std.proofs.lemmas.Iterator.Consumers.{YieldsList-from_copied, YieldsList-from_filter, max_from_yields_List}
+use Rattle.std.proofs.lemmas.Iterator.Adapters.{option_map_id}
+use borrow.Author.Tests.{tests}
 use Rattle.class.specs.Class.{ladder}
-use Rattle.class.proofs.Ladder.{start, stays, up, done}
+use Rattle.class.proofs.Ladder.{picked}
 use Rattle.class.proofs.step_of.Goals as goal
-use Rattle.class.proofs.step_of.Goals.{then-next-fr1, else-next-fr1}
-
-pub loop-rung-init : goal.loop-rung-init
-loop-rung-init c = (omega arith, start c.args.fr1)
-
-pub bounds-rung : goal.bounds-rung
-bounds-rung c = omega arith
-
-pub loop-rung-preserved : goal.loop-rung-preserved
-unfolding ladder
-loop-rung-preserved c =
-    let i = c.loop-rung.rung in
-    let k = c.loop-rung.invariant.1 in (
-      omega arith,
-      elim c.if-next-fr1.branch [
-        | then-next-fr1 w ↦ rw w.step-is (up _ _ i (omega arith) k w.if-next-fr1.true)
-        | else-next-fr1 w ↦ rw w.step-is (stays _ _ i (omega arith) k w.if-next-fr1.false)
-      ],
-    )
 
 pub returns : goal.returns
-returns c = let e : c.loop-rung.rung ≡ 12 = omega arith in done (rw e at c.loop-rung.invariant.1)
+unfolding ladder
+returns c =
+    let fr1 = c.args.fr1 in
+    picked fr1 c.max.result
+    (sym (option_map_id _)
+    ∙ max_from_yields_List _ _ c.max.ensures.ran
+    (YieldsList-from_filter _ (λ s. leb s fr1) (YieldsList-from_copied (YieldsList-from_slice ladder (cc))) c.filter.ensures.closure
+    (λ x b q k. search (rules, tests))))

@@ -23,14 +23,17 @@ stress : (c : After-bar_size-size)
     signed (ltb a.axis.x a.depth) c.bar_size-size.result ≡ bar_counts a.law (scale_of a.axis) a.axis.x a.depth
 stress c =
     let a = c.args in
-    let strain : 500 * (a.axis.unit * (2 * c.apart.result)) ≡ 500 * a.axis.unit * (2 * ((a.axis.x - a.depth) + (a.depth - a.axis.x))) =
-    sym (NatL.mul_assoc 500 a.axis.unit (2 * c.apart.result)) ∙ ap (λ n. 500 * a.axis.unit * (2 * n)) c.apart.ensures.0 in
-    bar_rounded a.law (ltb a.axis.x a.depth) _ a.axis.over c.bar_size-size.result (c.bar_size-size.ensures ∙ ap (λ n. size (bar a.law true n a.axis.over)) strain)
+    let strain : 500 * (a.axis.unit * (2 * c.abs_diff-apart.result)) ≡ 500 * a.axis.unit * (2 * ((a.axis.x - a.depth) + (a.depth - a.axis.x))) =
+    sym (NatL.mul_assoc 500 a.axis.unit (2 * c.abs_diff-apart.result)) ∙ ap (λ n. 500 * a.axis.unit * (2 * n)) c.abs_diff-apart.ensures in
+    bar_rounded a.law (ltb a.axis.x a.depth) _ a.axis.over c.bar_size-size.result
+    (c.bar_size-size.ensures ∙ ap (λ n. size (bar a.law true n a.axis.over)) strain)
 
 pub overflow_mul-axis : goal.overflow_mul-axis
 overflow_mul-axis c =
     let unit = c.args.axis.unit in
-    record { fits = omega (arith, NatL.mul-le-mul {n₁ = unit} {m₁ = 2 * c.apart.result} {n₂ = 255} {m₂ = 131070} (omega arith) (omega (arith, c.apart.ensures.1))) }
+    let apart = 2 * c.abs_diff-apart.result in
+    let most = NatL.mul-le-mul {n₁ = unit} {m₁ = apart} {n₂ = 255} {m₂ = 131070} (omega arith) (omega (arith, c.abs_diff-apart.type_inv)) in
+    record { fits = omega (arith, most) }
 
 pub overflow_cast-size : goal.overflow_cast-size
 overflow_cast-size c = record { sfits = omega (arith, most c) }

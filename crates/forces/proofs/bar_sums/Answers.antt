@@ -1,65 +1,78 @@
--- `bar_sums`: two running sums over the layers.
-use Prim.Native.Nat.{ℕ, ◌*◌, ◌<◌}
-use mathlib.Core.Path.{◌≡◌, ap, ◌∙◌}
+-- `bar_sums`: a layer more.
+use Prim.Native.Nat.{◌*◌, ◌≤◌, ◌<◌}
+use mathlib.Core.Path.{◌≡◌, ap, ◌∙◌, subst}
 use native.Mathlib.Omega.{arith}
-use lib.IntN.{pos, ◌*ℤ◌}
-use Rattle.arith.proofs.Machine.{read, back}
-use Rattle.section.specs.Has.{area_at, depth_at}
-use Rattle.law.specs.Law.{law_of}
+use lib.IntN.{pos, nat_abs, ◌*ℤ◌}
+use lib.ListN.{get_or, take, length-take}
+use Rattle.std.proofs.lemmas.List.{get_or-take}
+use Rattle.arith.proofs.Signed.{lever_most}
+use Rattle.section.specs.declared.Layer.{Layer}
+use Rattle.section.specs.Section.{no_layer, layer_at}
 use Rattle.strips.specs.Strips.{scale_of}
 use Rattle.forces.specs.Forces.{lever, bar_counts, bar_force, bar_moment}
+use Rattle.forces.specs.Code.{Summed}
 use Rattle.forces.proofs.Bars.{bar_weak}
-use Rattle.forces.proofs.Both.{none, force_fits, moment_fits, next, all}
+use Rattle.forces.proofs.Summed.{none, sizes, next}
 use Rattle.forces.proofs.bar_sums.Goals as goal
-use Rattle.forces.proofs.bar_sums.Goals.{After-force-one, After-turned-moment, Start}
+use Rattle.forces.proofs.bar_sums.Goals.{After-bar}
 
-abbrev start : After-force-one → Start
-start c = c.before.before.before.before.before
+-- the layer of a turn is one of those that count
+abbrev layer : After-bar → Layer
+layer c = let s = c.args.of.now.section in get_or (take s.count s.layers) c.loop-layer.layer-index no_layer
 
-abbrev at : After-force-one → ℕ
-at c = c.loop-j.j
+few : (c : After-bar) → c.loop-layer.layer-index < c.args.of.now.section.count
+few c = omega (arith, length-take {A = Layer})
 
-force-is : (c : After-force-one) → c.force-one.result ≡ bar_force (law_of (start c).args.section) (start c).args.section (start c).args.axis.x (at c)
+layer-is : (c : After-bar) → layer c ≡ layer_at c.args.of.now.section.layers c.loop-layer.layer-index
+layer-is c = let s = c.args.of.now.section in get_or-take s.count s.layers c.loop-layer.layer-index no_layer (few c)
+
+force-is : (c : After-bar)
+    → let of = c.args.of.now in
+    pos (layer c).area *ℤ c.bar.result ≡ bar_force of.law of.section c.args.axis.x c.loop-layer.layer-index
 unfolding bar_force
 force-is c =
-    let s = (start c).args.section in
-    let a = (start c).args.axis in
-    let p = (start c).requires in
-    c.force-one.ensures.0
-    ∙ ap (λ z. pos (area_at s (at c)) *ℤ z) (read (record { sfits = c.bar.type_inv }) ∙ c.bar.ensures ∙ (λ i. bar_counts (p.1 i) (p.2 i) a.x (depth_at s (at c))))
+    let law = c.args.of.now.law in
+    let x = c.args.axis.x in
+    λ k. pos (layer-is c k).area *ℤ (c.bar.ensures ∙ (λ j. bar_counts law (c.requires j) x (layer-is c j).depth)) k
 
-turned-is : (c : After-turned-moment)
-    → let a = (start c.before.before).args in c.turned-moment.result ≡ bar_moment (law_of a.section) a.section a.axis.x (at c.before.before)
+lever-is : (c : After-bar)
+    → let s = c.args.of.now.section in
+    c.lever-lever.result ≡ lever s (2 * (layer_at s.layers c.loop-layer.layer-index).depth)
+lever-is c = let s = c.args.of.now.section in c.lever-lever.ensures ∙ ap (λ (l : Layer). lever s (2 * l.depth)) (layer-is c)
+
+near : (c : After-bar) → nat_abs c.lever-lever.result ≤ 1000
+near c =
+    let of = c.args.of.now in
+    let s = of.section in
+    let j = c.loop-layer.layer-index in
+    let inside = (of.accepted.bars.0.each j (few c)).inside in
+    rw (lever-is c) (omega (arith, lever_most s.h (2 * (layer_at s.layers j).depth) (omega (arith, inside)), of.accepted.sizes.1.1))
+
+weak : (c : After-bar) → nat_abs c.bar.result ≤ 521739
+weak c =
+    let of = c.args.of.now in
+    let axis = c.args.axis in
+    rw c.bar.ensures (bar_weak of.accepted of.is (scale_of axis) axis.x (layer c).depth)
+
+pub loop-layer-init : goal.loop-layer-init
+loop-layer-init c = none _ _
+
+pub add-requires-clause-sizes : goal.add-requires-clause-sizes
+add-requires-clause-sizes c = sizes c.lever-lever.result c.bar.result (near c) (weak c)
+
+pub loop-layer-preserved : goal.loop-layer-preserved
 unfolding bar_moment
-turned-is c =
-    let s = (start c.before.before).args.section in
-    let is : c.turned-moment.result ≡ lever s (2 * depth_at s (at c.before.before)) *ℤ back c.force-one.result = c.turned-moment.ensures.0 in
-    is ∙ ap (λ z. lever s (2 * depth_at s (at c.before.before)) *ℤ z) (read (record { sfits = c.force-one.type_inv }) ∙ force-is c.before.before)
-
-few : (c : After-force-one) → at c < 1000
-few c = omega (arith, (start c).requires.0.bars.0.few)
-
-pub loop-j-init : goal.loop-j-init
-loop-j-init c = (omega arith, none _ _)
-
-pub force-one-requires : goal.force-one-requires
-force-one-requires c =
-    let a = c.args.axis in
-    rw (read (record { sfits = c.bar.type_inv }), c.bar.ensures) (bar_weak c.requires.0 c.requires.1 (scale_of a) a.x (depth_at c.args.section c.loop-j.j))
-
-pub overflow_add-sum : goal.overflow_add-sum
-overflow_add-sum c = force_fits c.loop-j.invariant.1 (few c) _ (force-is c) c.force-one.ensures.1
-
-pub turned-moment-requires : goal.turned-moment-requires
-turned-moment-requires c =
-    let p = (start (goal.at.turned-moment-requires c).After-force-one).requires.0 in
-    (p.sizes.1.1, omega (arith, (p.bars.0.each (at (goal.at.turned-moment-requires c).After-force-one) (omega arith)).inside), rw (read (record { sfits = c.force-one.type_inv })) c.force-one.ensures.1)
-
-pub overflow_add-moment : goal.overflow_add-moment
-overflow_add-moment c = moment_fits c.loop-j.invariant.1 (few (goal.at.overflow_add-moment c).After-force-one) _ (turned-is c) c.turned-moment.ensures.1
-
-pub loop-j-preserved : goal.loop-j-preserved
-loop-j-preserved c = (omega arith, next c.loop-j.invariant.1 (few (goal.at.loop-j-preserved c).After-force-one) _ (force-is (goal.at.loop-j-preserved c).After-force-one) c.force-one.ensures.1 _ (turned-is c) c.turned-moment.ensures.1)
+loop-layer-preserved c =
+    let d = (goal.at.loop-layer-preserved c).After-bar in
+    let of = c.args.of.now in
+    next c.lever-lever.result c.bar.result (near d) (weak d) (layer d).area (omega arith) c.loop-layer.invariant (force-is d)
+    (ap (λ z. z *ℤ bar_force of.law of.section c.args.axis.x c.loop-layer.layer-index) (lever-is d))
+    c.add.ensures.force c.add.ensures.moment
 
 pub returns : goal.returns
-returns c = all c.args.section.count 8 c.loop-j.invariant.1 (omega arith) c.requires.0.bars.0.few
+returns c =
+    let of = c.args.of.now in
+    let x = c.args.axis.x in
+    let all : c.loop-layer.layer-index ≡ of.section.count = omega (arith, length-take {A = Layer}, of.accepted.bars.0.few) in
+    subst (λ n. Summed n (bar_force of.law of.section x) (bar_moment of.law of.section x) c.loop-layer.sums.force c.loop-layer.sums.moment) all
+    c.loop-layer.invariant

@@ -1,65 +1,53 @@
--- `strip_sums`: two running sums over the strips.
-use Prim.Native.Nat.{ℕ, ◌+◌, ◌*◌, ◌<◌}
-use mathlib.Core.Path.{◌≡◌, ap, ◌∙◌}
+-- `strip_sums`: a strip more.
+use Prim.Native.Nat.{◌≤◌}
+use mathlib.Core.Path.{◌≡◌, refl, ap, ◌∙◌}
 use native.Mathlib.Omega.{arith}
 use lib.Dec.{leb}
-use lib.IntN.{pos, ◌*ℤ◌}
-use Rattle.arith.proofs.Machine.{read, back}
-use Rattle.law.specs.Law.{law_of}
-use Rattle.strips.proofs.Runs.{strip_most}
+use lib.IntN.{pos, nat_abs, ◌*ℤ◌}
+use Rattle.arith.proofs.Signed.{lever_most}
+use Rattle.law.specs.Stress.{rounded}
+use Rattle.law.specs.Sizes.{small}
+use Rattle.law.proofs.Sizes.{small_law}
+use Rattle.strips.specs.Strips.{middle, strip}
+use Rattle.strips.proofs.Runs.{strip_most, strip_rounded}
 use Rattle.forces.specs.Forces.{lever, strip_force, strip_moment}
-use Rattle.forces.proofs.Strips.{strip_is}
-use Rattle.forces.proofs.Both.{none, force_fits, moment_fits, next, all}
+use Rattle.forces.proofs.Summed.{none, sizes, next}
 use Rattle.forces.proofs.strip_sums.Goals as goal
-use Rattle.forces.proofs.strip_sums.Goals.{After-force-one, After-turned-moment, Start}
+use Rattle.forces.proofs.strip_sums.Goals.{After-strip}
 
-abbrev start : After-force-one → Start
-start c = c.before.before.before.before.before
-
-abbrev at : After-force-one → ℕ
-at c = c.loop-i.i
-
-force-is : (c : After-force-one)
-    → c.force-one.result ≡ strip_force (law_of (start c).args.section) (start c).args.section (start c).args.axis.x (at c)
+force-is : (c : After-strip)
+    → let of = c.args.of.now in
+    pos c.width_at.result *ℤ c.strip.result ≡ strip_force of.law of.section c.args.axis.x c.loop-i.i
 unfolding strip_force
 force-is c =
-    let a = (start c).args in
-    let p = (start c).requires in
-    let own = strip_is a.section a.law a.axis p.0 p.1 p.2 (at c) in
-    c.force-one.ensures.0
-    ∙ (λ k. pos (c.width_at.ensures k) *ℤ (read (record { sfits = c.strip.type_inv }) ∙ c.strip.ensures ∙ own) k)
+    let of = c.args.of.now in
+    let axis = c.args.axis in
+    let i = c.loop-i.i in
+    let is = strip_rounded of.law axis i (leb axis.x i) (ap small of.is ∙ small_law of.accepted) refl in
+    λ k. pos (c.width_at.ensures k) *ℤ (c.strip.ensures ∙ is ∙ (λ j. rounded (strip of.law (c.requires j) axis.x i))) k
 
-turned-is : (c : After-turned-moment)
-    → let a = (start c.before).args in c.turned-moment.result ≡ strip_moment (law_of a.section) a.section a.axis.x (at c.before)
-unfolding strip_moment
-turned-is c =
-    let s = (start c.before).args.section in
-    let is : c.turned-moment.result ≡ lever s (2 * at c.before + 1) *ℤ back c.force-one.result = c.turned-moment.ensures.0 in
-    is ∙ ap (λ z. lever s (2 * at c.before + 1) *ℤ z) (read (record { sfits = c.force-one.type_inv }) ∙ force-is c.before)
+lever-is : (c : After-strip) → c.lever-lever.result ≡ lever c.args.of.now.section (middle c.loop-i.i)
+lever-is c = c.lever-lever.ensures
 
-few : (c : After-force-one) → at c < 1000
-few c = omega (arith, (start c).requires.0.sizes.1.1)
+near : (c : After-strip) → nat_abs c.lever-lever.result ≤ 1000
+near c =
+    let of = c.args.of.now in
+    rw (lever-is c) (omega (arith, lever_most of.section.h (middle c.loop-i.i) (omega arith), of.accepted.sizes.1.1))
+
+weak : (c : After-strip) → nat_abs c.strip.result ≤ 521739
+weak c = let a = c.args in rw c.strip.ensures (omega (arith, strip_most a.of.now.law a.axis c.loop-i.i (leb a.axis.x c.loop-i.i)))
 
 pub loop-i-init : goal.loop-i-init
-loop-i-init c = (omega arith, none _ _)
+loop-i-init c = none _ _
 
-pub force-one-requires : goal.force-one-requires
-force-one-requires c =
-    let a = c.args in
-    let i = c.loop-i.i in
-    rw (read (record { sfits = c.strip.type_inv }), c.strip.ensures) (omega (arith, strip_most a.law a.axis i (leb a.axis.x i)))
-
-pub overflow_add-sum : goal.overflow_add-sum
-overflow_add-sum c = force_fits c.loop-i.invariant.1 (few c) _ (force-is c) c.force-one.ensures.1
-
-pub turned-moment-requires : goal.turned-moment-requires
-turned-moment-requires c = ((start c).requires.0.sizes.1.1, omega arith, rw (read (record { sfits = c.force-one.type_inv })) c.force-one.ensures.1)
-
-pub overflow_add-moment : goal.overflow_add-moment
-overflow_add-moment c = moment_fits c.loop-i.invariant.1 (few (goal.at.overflow_add-moment c).After-force-one) _ (turned-is c) c.turned-moment.ensures.1
+pub add-requires-clause-sizes : goal.add-requires-clause-sizes
+add-requires-clause-sizes c = sizes c.lever-lever.result c.strip.result (near c) (weak c)
 
 pub loop-i-preserved : goal.loop-i-preserved
-loop-i-preserved c = (omega arith, next c.loop-i.invariant.1 (few (goal.at.loop-i-preserved c).After-force-one) _ (force-is (goal.at.loop-i-preserved c).After-force-one) c.force-one.ensures.1 _ (turned-is c) c.turned-moment.ensures.1)
-
-pub returns : goal.returns
-returns c = all c.args.section.h 1000 c.loop-i.invariant.1 (omega arith) c.requires.0.sizes.1.1
+unfolding strip_moment
+loop-i-preserved c =
+    let d = (goal.at.loop-i-preserved c).After-strip in
+    let a = c.args in
+    next c.lever-lever.result c.strip.result (near d) (weak d) c.width_at.result (omega arith) c.loop-i.invariant (force-is d)
+    (ap (λ z. z *ℤ strip_force a.of.now.law a.of.now.section a.axis.x c.loop-i.i) (lever-is d))
+    c.add.ensures.force c.add.ensures.moment

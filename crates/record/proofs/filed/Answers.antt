@@ -1,28 +1,21 @@
--- `filed`: refused or written, by the rule's test.
-use Prim.Native.Nat.{◌/◌, ◌≤◌}
-use mathlib.Core.Path.{ap, ◌∙◌}
-use native.Mathlib.Omega.{arith}
-use borrow.Author.Tests.{le-leb, lt-leb}
-use Rattle.arith.specs.Joined.{joined}
-use Rattle.record.specs.Filed.{number_bytes, in_places, filed_answer}
-use Rattle.record.proofs.Length.{flange_size_is}
-use Rattle.record.proofs.Inverse.{filed_by}
+-- `filed`: with a flange behind the layers, or without.
+use Rattle.std.proofs.Common.{◌≡◌, ◌+◌, ◌*◌, arith, rules}
+use Rattle.refusal.proofs.Answers.{answers}
+use Rattle.record.specs.Filed.{filed}
+use Rattle.record.proofs.Inverse.{filed_flat, filed_rib}
 use Rattle.record.proofs.filed.Goals as goal
+use Rattle.record.proofs.filed.Goals.{Joined-s-ne0, then-s-ne0, else-s-ne0}
 
-pub returns-then-m-gt8 : goal.returns-then-m-gt8
-unfolding filed_answer
-returns-then-m-gt8 c = rw (lt-leb c.args.s.count 8 (omega arith))
-
-pub in_bytes-requires : goal.in_bytes-requires
-in_bytes-requires c = omega (arith, c.record_size-len.ensures.0, flange_size_is c.args.s.hf)
+whole : (c : Joined-s-ne0) → c.if-s-ne0.record ≡ filed c.args.s
+whole c =
+    let s = c.args.s in
+    let l = c.loop-layer in
+    let n : 12 + 2 * l.layer-index ≡ 12 + 2 * s.count = omega arith in
+    let all = rw n at l.invariant.so_far in
+    elim c.if-s-ne0.branch [
+      | then-s-ne0 w ↦ rw (w.record-is, w.push-then-s-ne0-2.ensures, w.push-then-s-ne0.ensures, all) (filed_rib s l.invariant.few (omega arith))
+      | else-s-ne0 w ↦ rw (w.record-is, all) (filed_flat s l.invariant.few (omega arith))
+    ]
 
 pub returns : goal.returns
-unfolding filed_answer
-returns c =
-    let s = c.args.s in
-    let few : s.count ≤ 8 = omega arith in
-    let all = c.with_flange-all in
-    let is = filed_by s few c.numbers.result all.result c.numbers.ensures all.ensures in
-    let len = c.record_size-len.ensures.0 in
-    let bytes = c.in_bytes.ensures ∙ (λ i. in_places (joined (number_bytes all.result) (len i / 2))) ∙ ap in_places is in
-    rw (le-leb _ 8 few) (λ i. record { refusal = 0; len = len i; bytes = bytes i })
+returns c = answers (search rules) (whole c)

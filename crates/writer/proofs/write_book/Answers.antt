@@ -1,58 +1,46 @@
 -- `write_book`: the first refusal of a record, then room for the book; then records, index and last bytes.
-use Prim.Native.Nat.{ℕ, ◌+◌, ◌*◌, ◌^◌, ◌<◌}
-use mathlib.Core.Path.{◌∙◌}
-use mathlib.Core.List.{List}
-use native.Mathlib.Omega.{arith}
-use lib.ListN.{length}
-use Rattle.writer.specs.Code.{Tallied}
-use Rattle.writer.proofs.Walk.{place_least}
-use Rattle.writer.proofs.Strings.{ends_with}
-use Rattle.writer.proofs.Books.{book_refused, tallied, book_homeless, book_over, book_put}
+use Rattle.std.proofs.Common.{◌≡◌, ◌∙◌, rules, sym, arith, length}
+use Rattle.refusal.specs.Refusal.{number, number_of}
+use Rattle.refusal.proofs.Answers.{number_in, answers, refuses}
+use Rattle.writer.specs.Written.{write_refusal}
+use Rattle.writer.proofs.Strings.{tallied}
+use Rattle.writer.proofs.Books.{refused_by, book_refused, book_kept, book_homeless, book_granted, book_length, book_put}
 use Rattle.writer.proofs.write_book.Goals as goal
+use Rattle.writer.proofs.write_book.Goals.{After-from_residual, Then-min-len}
 
-pub returns-then-tally-ne0 : goal.returns-then-tally-ne0
-returns-then-tally-ne0 c =
-    let k = book_refused c.args.records.now c.args.book.now c.tally_of-tally.ensures (λ e. omega (arith, e)) in
-    (c.refused.ensures ∙ k.0, k.1)
+-- ---- a record is refused
+handed : (c : After-from_residual) → let n = number c.in_err-sections.field-0.0 in (write_refusal c.args.records.now (length c.args.book.now) ≡ n) × (n ≡ 0 → ⊥)
+handed c =
+    let e = c.in_err-sections.field-0.0 in
+    let is = c.in_err-sections.ensures.number in
+    (book_refused _ _ (λ z. omega (arith, (number_in e).0, is, z)) ∙ sym is, λ z. omega (arith, (number_in e).0, z))
+
+pub returns-in_err-sections-clause-answer : goal.returns-in_err-sections-clause-answer
+returns-in_err-sections-clause-answer c =
+    let k = handed c in
+    let by : number_of c.from_residual.result ≡ number c.in_err-sections.field-0.0 = search rules in
+    refused_by _ (rw (sym k.0) at k.1) (by ∙ sym k.0)
+
+pub returns-in_err-sections-clause-after : goal.returns-in_err-sections-clause-after
+returns-in_err-sections-clause-after c = let k = handed c in book_kept _ _ (rw (sym k.0) at k.1)
 
 -- ---- where all records pass
-fits : {r : List ℕ} {n : ℕ} → Tallied r n → length r < 2 ^ 63 → length r + 4 * n + 16 < 2 ^ 64
-fits {r} {n} t h = omega (arith, place_least r n, ends_with t, h)
+homeless : (c : Then-min-len) → write_refusal c.args.records.now (length c.args.book.now) ≡ 19
+homeless c = rw (← c.in_ok-sections.ensures.of) (book_homeless (tallied c.in_ok-sections.sections) c.args.book.now (omega arith))
 
-pub overflow_mul-len : goal.overflow_mul-len
-overflow_mul-len c =
-    let t = tallied c.args.records.now c.args.book.now c.tally_of-tally.ensures (omega arith) in
-    record { fits = omega (arith, fits t (omega arith)) }
+pub returns-then-min-len-clause-answer : goal.returns-then-min-len-clause-answer
+returns-then-min-len-clause-answer c = refuses (sym (homeless c))
 
-pub overflow_add-len : goal.overflow_add-len
-overflow_add-len c =
-    let t = tallied c.args.records.now c.args.book.now c.tally_of-tally.ensures (omega arith) in
-    record { fits = omega (arith, fits t (omega arith)) }
+pub returns-then-min-len-clause-after : goal.returns-then-min-len-clause-after
+returns-then-min-len-clause-after c = let k = homeless c in book_kept _ _ (λ z. omega arith)
 
-pub overflow_add-len-2 : goal.overflow_add-len-2
-overflow_add-len-2 c =
-    let t = tallied c.args.records.now c.args.book.now c.tally_of-tally.ensures (omega arith) in
-    record { fits = omega (arith, fits t (omega arith)) }
+pub returns-clause-answer : goal.returns-clause-answer
+returns-clause-answer c =
+    let t = tallied c.in_ok-sections.sections in
+    rw (← c.in_ok-sections.ensures.of) (answers (book_granted t c.args.book.now (omega arith)) (c.book_len-len.ensures ∙ sym (book_length t)))
 
-pub returns-then-book-len : goal.returns-then-book-len
-returns-then-book-len c =
-    let t = tallied c.args.records.now c.args.book.now c.tally_of-tally.ensures (omega arith) in
-    let k = book_homeless t c.args.book.now (omega arith) in
-    (c.refused-then-book-len.ensures ∙ k.0, k.1)
-
-pub returns-then-len-gt65536 : goal.returns-then-len-gt65536
-returns-then-len-gt65536 c =
-    let t = tallied c.args.records.now c.args.book.now c.tally_of-tally.ensures (omega arith) in
-    let k = book_over t c.args.book.now (omega arith) (omega arith) in
-    (c.refused-then-len-gt65536.ensures ∙ k.0, k.1)
-
-pub put_records-requires : goal.put_records-requires
-put_records-requires c = (tallied c.args.records.now c.args.book.now c.tally_of-tally.ensures (omega arith), omega arith)
-
-pub put_index-requires : goal.put_index-requires
-put_index-requires c = (tallied c.args.records.now c.args.book.now c.tally_of-tally.ensures (omega arith), omega arith, omega arith)
-
-pub returns : goal.returns
-returns c =
-    let t = tallied c.args.records.now c.args.book.now c.tally_of-tally.ensures (omega arith) in
-    book_put t c.args.book.now (omega arith) (omega arith) c.put_records.ensures c.put_index.ensures c.put_last.ensures
+pub returns-clause-after : goal.returns-clause-after
+returns-clause-after c =
+    let t = tallied c.in_ok-sections.sections in
+    rw (← c.in_ok-sections.ensures.of)
+    (book_put t c.args.book.now (omega arith) c.put_records.ensures c.put_index.ensures c.put_last.ensures)
