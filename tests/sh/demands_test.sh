@@ -129,7 +129,19 @@ proved() {
     (cd "$copy/crates/$1" && rt check) >target/tests/weakened.log 2>&1
 }
 
-# refused_at PATTERN FILE..: whether the copy's demands are refused, at just those lines of these files that have the
+# begun: of places FILE:LINE on standard input, where what stands there begins: a field, or a declaration.
+begun() {
+    local file line
+    while IFS=: read -r file line; do
+        awk -v place="$file" -v line="$line" '
+            NR > line { exit }
+            /^(  )?[a-z]/ { begins = NR }
+            END { print place ":" begins }
+        ' "$proofs/$file"
+    done
+}
+
+# refused_at PATTERN FILE..: whether the copy's demands are refused, at just those fields of these files that have the
 # pattern, and elsewhere for no reason but that these are.
 refused_at() {
     local pattern=$1
@@ -138,7 +150,7 @@ refused_at() {
     proved demands
     [ "$?" -eq 1 ] && sed -nE '/was not admitted|(was|were) not checked/d
         s/^(.*\/)?proofs\/([A-Za-z0-9]+\.antt:[0-9]+):[0-9]+: error.*/\2/p' target/tests/weakened.log |
-        sort -u | same
+        begun | sort -u | same
 }
 
 # The functions of the C face answer as they do, but their contracts tell nothing.

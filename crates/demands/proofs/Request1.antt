@@ -19,6 +19,7 @@ use Rattle.writer.proofs.Strings.{Tallied, few_there}
 use Rattle.writer.proofs.Books.{all_passes}
 use Rattle.writer.proofs.Reading.{book_good, part_filed, count_there, reads_as}
 use Rattle.writer.proofs.Back.{back_answer}
+use Rattle.panel.specs.declared.answers.BookAnswer.{BookAnswer}
 use Rattle.panel.specs.Face.{book_answer, write_answer}
 use Rattle.demands.specs.Every as Every
 use Rattle.demands.specs.Table.{First, lone_lines, section_lines}
@@ -46,9 +47,9 @@ module _ (r before : List ℕ) {after : List ℕ} (left : after ≡ book_after r
   counted : Every.book (Counted r (take (length (book_in r)) after))
   counted κs a y e p is = answered (rw (is ∙ there) at p) is_book ∙ ap Ok count_is
 
-  face_counted : Every.fw_book (FaceCounted r (take (length (book_in r)) after))
+  face_counted : (bytes : List ℕ) {y : BookAnswer} → y ≡ book_answer bytes → FaceCounted r (take (length (book_in r)) after) bytes y
   unfolding book_answer
-  face_counted κs a y e p is = rw (rw (is ∙ there) at p, is_book, count_is) (refl, refl)
+  face_counted bytes p is = rw (rw (is ∙ there) at p, is_book, count_is) (refl, refl)
 
   -- a record's part of it
   same :
@@ -94,7 +95,7 @@ request1 = record {
       (answered p.0 k.0 ∙ ap Ok k.1, k.2)) q;
   fw_counted = λ κs a x e p.
       Shapes.shown writings (λ y. Every.fw_book (FaceCounted a.0.now (take y.len e.1.0.now))) (write_refusal a.0.now (length a.1.0.now)) _
-      (λ none h. face_counted a.0.now a.1.0.now p.1 none) p.0;
+      (λ none h κ b y f q. face_counted a.0.now a.1.0.now p.1 none b.0.now q) p.0;
   fw_again = λ κs a y e q.
       Shapes.shown books
       (λ y. Bytes a.0.now → (parts : ℕ → List ℕ) → Parts a.0.now y.count parts → Every.fw_write_book (FaceAgain a.0.now parts y.count))
