@@ -14,15 +14,15 @@ proofs=crates/demands/proofs
 # The public functions, crate by crate, a method after its type, each with its signature; the program's are not called
 # from outside, and the exports are the functions of their names in panel, over again (all_exported). A crate's modules
 # are private: what is called from outside stands in its lib.rt, or is of a type that this passes on by `pub use`.
-# What C gets of a Result is made by a `From`, which is read under the name that Rattle gives it.
+# What is made by a `From` is read under the name that Rattle gives it.
 signatures() {
     awk '
         FNR == 1 { split(FILENAME, path, "/"); type = ""; module = path[4] != "lib.rt" }
         /^pub use / { while ($0 !~ /;/ && (getline more) > 0) $0 = $0 more; gsub(/[a-z_]+::|[{},;]/, " "); for (i = 3; i <= NF; i++) passed[path[2] "." $i "."] = 1; next }
-        /^impl From<Result</ {
-            file = path[4]; sub(/.rt$/, ".", file)
+        /^impl From</ {
+            file = path[4]; sub(/.rt$/, ".", file); if (!module) file = ""
             made = $0; sub(/.* for /, "", made); sub(/ .*/, "", made)
-            count = split($0, words, /[^A-Za-z0-9]+/); name = made "From"
+            count = split($0, words, /[^A-Za-z0-9]+/); name = toupper(substr(made, 1, 1)) substr(made, 2) "From"
             for (i = 3; i <= count && words[i] != "for"; i++) name = name toupper(substr(words[i], 1, 1)) substr(words[i], 2)
             print path[2] "." file name ".from\t-> " made
         }

@@ -4,13 +4,13 @@ use mathlib.Core.HLevel.{is_prop→PathP}
 use native.Mathlib.Bridge.{le_prop}
 use native.Mathlib.Nat.{ℕ_set}
 use native.Mathlib.Omega.{arith}
-use Rattle.refusal.proofs.Answers.{one_answer}
+use Rattle.refusal.proofs.Answers.{number_own, one_answer}
 use Rattle.roots.proofs.Theorems.{root_only}
 use Rattle.section.specs.Accepted.{Accepted}
 use Rattle.law.specs.declared.Lawful.{Lawful}
 use Rattle.law.specs.Law.{law_of}
 use Rattle.demands.specs.Decided.{Decided}
-use Rattle.demands.proofs.Results.{one_by, by_number}
+use Rattle.demands.proofs.Results.{one_by, one_added, by_number}
 use Rattle.demands.proofs.Told.{one_list, list_worked, one_first, first_worked, first_not_short}
 
 -- an accepted section has one law
@@ -26,9 +26,11 @@ one_lawful {x} {y} e =
 
 pub decided : Decided
 decided = record {
+  number_from = λ κs a x y e f p q. p ∙ sym q;
   root = λ κs a x y e f p q. root_only p q;
   check = λ κs a x y e f p q. one_answer (by_number x p) (by_number y q);
-  with_layer_call = λ κs a x y e f p q. one_answer p q;
+  with_layer_call = λ κs a x y e f p q. one_added a.0 x y (one_answer p.answer q.answer) p.back q.back;
+  not_added_from = λ κs a x y e f p q. p ∙ sym q;
   last_depth_call = λ κs a x y e f p q. p ∙ sym q;
   steel = λ κs a x y e f p q. λ i. record { area = (p.0 ∙ sym q.0) i; moment = (p.1 ∙ sym q.1) i };
   law_of_call = λ κs a x y e f p q. one_answer p q;
@@ -47,6 +49,9 @@ decided = record {
       one_list x y (p.0 ∙ sym q.0) (list_worked a.0 _ 14 refl (omega arith) p.0) (list_worked a.0 _ 15 refl (omega arith) p.0);
   depths_row = λ κs a x y e f p q. p.1 ∙ sym q.1;
   first = λ κs a x y e f p q. one_first x y (p ∙ sym q) (first_worked a.0 p) (first_not_short a.0 p);
+  kind_from = λ κs a x y e f p q. p ∙ sym q;
+  unlisted_from = λ κs a x y e f p q. p ∙ sym q;
+  refusal_from = λ κs a x y e f p q. number_own x y (p ∙ sym q);
   shear = λ κs a x y e f p q. one_answer p q;
   as_slice = λ κs a x y e f p q. p ∙ sym q;
   byte = λ κs a x y e f p q. p ∙ sym q;
@@ -63,6 +68,7 @@ decided = record {
   write_book_bytes = λ κs a x y e f p q. p.1 ∙ sym q.1;
   add_layer = λ κs a x y e f p q. one_answer p.0 q.0;
   add_layer_bytes = λ κs a x y e f p q. p.1 ∙ sym q.1;
+  letter_from = λ κs a x y e f p q. p ∙ sym q;
   class = λ κs a x y e f p q. one_answer p q;
   strength = λ κs a x y e f p q. one_answer p q;
   book_from = λ κs a x y e f p q. p ∙ sym q;

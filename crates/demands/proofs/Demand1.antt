@@ -162,7 +162,7 @@ unfolding write_answer add_answer book_after record_after drawn_of imbalance_of 
 demand1 = record {
   free = free;
   check = λ κs a x e p. rw p (exactly _ _ (section_first a.0));
-  with_layer_call = λ κs a x e p. by_lines _ (layer_first a.0 _) p;
+  with_layer_call = λ κs a x e p. record { number = by_lines _ (layer_first a.0 _) p.answer; beside = λ refused. p.back };
   law_of_call = λ κs a x e p. by_lines _ (section_first a.0) p;
   lawful_of = λ κs a x e p. rw p.0 (exactly _ _ (section_first a.0));
   draw = λ κs a x e p. by_lines _ (strain_first a.0 a.1.0) p;

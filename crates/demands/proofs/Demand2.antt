@@ -60,7 +60,7 @@ use Rattle.demands.specs.Every.{as_list, as_first}
 use Rattle.demands.specs.Table.{First, asked_lines}
 use Rattle.demands.specs.Demand2.{Between, LayerAdded, LawfulIs, ClassIs, PointIs, ListIs, FirstIs, PlaceIs}
 use Rattle.demands.specs.Demand2.{ReadsAs, BookPut, LayerPut, RecordIs, StrengthIs, Demand2}
-use Rattle.demands.proofs.Results.{if_ok, and_so, ok_exactly}
+use Rattle.demands.proofs.Results.{if_ok, and_so, ok_exactly, added_ok}
 use Rattle.demands.proofs.Shapes.{books, places, writings, classes, strengths, listings, gets, points, amounts, shown, grants, point_shown}
 use Rattle.demands.proofs.Shapes.{imbalance_shown, moment_shown, shear_shown, first_shown, list_in, list_there}
 use Rattle.demands.proofs.Table.{exactly, asked_first}
@@ -157,8 +157,10 @@ module _ (r before : List ℕ) {after : List ℕ} where
 pub demand2 : Demand2
 unfolding book_answer record_answer write_answer add_answer class_answer strength_answer section_in as_written letter_of class_of
 demand2 = record {
+  number_from = λ κs a x e p. p;
+  not_added_from = λ κs a x e p. p;
   check = λ κs a x e p. Iff.trans (ok_exactly x) (rw p (accepted_exactly a.0));
-  with_layer_call = λ κs a x e p. if_ok _ (layer_is a.0 _) p;
+  with_layer_call = λ κs a x e p. added_ok _ x (if_ok _ (layer_is a.0 _) p.answer);
   last_depth_call = λ κs a x e p. p;
   steel = λ κs a x e p. (p.0, p.1);
   law_of_call = λ κs a x e p. p.value;
@@ -176,6 +178,9 @@ demand2 = record {
   moment_is = λ κs a x e p. p.value;
   depths = λ κs a x e p. list_is a.0 a.1.0.now p.0 p.1;
   first = λ κs a x e p. first_is a.0 p;
+  kind_from = λ κs a x e p. p;
+  unlisted_from = λ κs a x e p. p;
+  refusal_from = λ κs a x e p. p;
   root = λ κs a x e p. p;
   shear = λ κs a x e p. p.value;
   square_root = square_root;
@@ -194,6 +199,7 @@ demand2 = record {
   record_part = λ κs a x e p. rw p (part_filed a.0.now a.1.0);
   write_book = λ κs a x e p. if_ok _ (write_is a.0.now a.1.0.now p.1) p.0;
   add_layer = λ κs a x e p. if_ok _ (add_is a.0.now a.1.1.1.0.now _ p.1) p.0;
+  letter_from = λ κs a x e p. p;
   class = λ κs a x e p. if_ok _ (λ none. (refl, refl)) p;
   strength = λ κs a x e p. if_ok _ (strength_is a.0.now) p;
   book_from = λ κs a x e p. gets books Given.counted a.0 p;

@@ -3,9 +3,11 @@ use Rattle.demands.specs.Free.{Free}
 
 pub free : Free
 free = record {
+  number_from = λ κs a. tt;
   root = λ κs a. tt;
   check = λ κs a. tt;
   with_layer_call = λ κs a. tt;
+  not_added_from = λ κs a. tt;
   last_depth_call = λ κs a. tt;
   steel = λ κs a. tt;
   law_of_call = λ κs a. tt;
@@ -22,6 +24,9 @@ free = record {
   moment = λ κs a. tt;
   depths = λ κs a. tt;
   first = λ κs a. tt;
+  kind_from = λ κs a. tt;
+  unlisted_from = λ κs a. tt;
+  refusal_from = λ κs a. tt;
   shear = λ κs a. tt;
   as_slice = λ κs a. tt;
   byte = λ κs a. tt;
@@ -36,6 +41,7 @@ free = record {
   record_part = λ κs a. tt;
   write_book = λ κs a. tt;
   add_layer = λ κs a. tt;
+  letter_from = λ κs a. tt;
   class = λ κs a. tt;
   strength = λ κs a. tt;
   book_from = λ κs a. tt;

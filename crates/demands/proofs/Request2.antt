@@ -6,9 +6,12 @@ use lib.IntN.{ℤ, pos}
 use lib.ListN.{length}
 use native.Mathlib.Omega.{arith}
 use borrow.Author.Tests.{eq-eqb, ne_eqb}
+use Rattle.std.proofs.Common.{subst}
 use Rattle.section.specs.declared.Section.{Section}
 use Rattle.section.specs.Accepted.{Accepted}
 use Rattle.section.proofs.Accepted.{accepted, accepts}
+use Rattle.law.specs.declared.Law.{Law}
+use Rattle.law.specs.declared.Lawful.{Lawful}
 use Rattle.law.specs.Law.{limit_depth, effective_depth, law_by, law_with, law_of}
 use Rattle.law.proofs.Ranges.{depth_below, depth_most, one_depth}
 use Rattle.drawn.specs.Drawn.{point_at}
@@ -37,6 +40,10 @@ module _ (s : Section) where
   both ok some =
       let with = ne_eqb s.count 0 (λ e. omega arith) in
       record { centroid = rw with; deepest = rw with; below = depth_below ok; most = depth_most ok }
+
+-- of a law that has its section with it
+lawful_so : {s : Section} (P : Law → Type 0) (l : Lawful) → l.section ≡ s → P (law_of s) → P l.law
+lawful_so P l same = subst P (sym (l.is ∙ ap law_of same))
 
 -- ---- what is kept
 module _ {s : Section} (o : OneSteel s) where
@@ -80,6 +87,12 @@ pub request2 : Request2
 request2 = record {
   without_bars = λ κs a x e p. if_ok (λ l. a.0.count ≡ 0 → (l.d ≡ a.0.h) × (l.limit ≡ a.0.h)) (λ none. without a.0) p;
   with_bars = λ κs a x e p. if_ok (λ l. 0 < a.0.count → TwoDepths a.0 l) (λ none. both a.0 (accepted a.0 none)) p;
+  lawful_without_bars = λ κs a x e p.
+      let P = λ (l : Law). a.0.count ≡ 0 → (l.d ≡ a.0.h) × (l.limit ≡ a.0.h) in
+      and_so (λ l. l.section ≡ a.0) (λ l. P l.law) (λ l same. lawful_so P l same (without a.0)) x p.1;
+  lawful_with_bars = λ κs a x e p.
+      let P = λ (l : Law). 0 < a.0.count → TwoDepths a.0 l in
+      and_so (λ l. l.section ≡ a.0) (λ l. P l.law) (λ l same. lawful_so P l same (both a.0 (subst Accepted same l.accepted))) x p.1;
   law_of_call = λ κs a x e p o. value_is (kept o) p;
   lawful_of = λ κs a x e p o. and_so (λ l. l.section ≡ a.0) (λ l. l.law ≡ deepest_law a.0) (λ l same. l.is ∙ ap law_of same ∙ kept o) x p.1;
   draw = λ κs a x e p o. value_is (point_kept o a.1.0) p;

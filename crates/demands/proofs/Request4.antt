@@ -7,7 +7,7 @@ use native.Mathlib.Omega.{arith}
 use lib.Dec.{eqb}
 use lib.IntN.{ℤ, pos}
 use lib.ListN.{length}
-use Rattle.std.specs.Prelude.{Result, Ok, Err, IfOk}
+use Rattle.std.specs.Prelude.{Result, Ok, Err, IfOk, IfErr}
 use Rattle.std.specs.Result.{result_map_both}
 use Rattle.arith.specs.Answers.{unless_refused}
 use Rattle.arith.specs.Joined.{joined}
@@ -21,7 +21,8 @@ use Rattle.section.specs.declared.Steel.{Steel}
 use Rattle.section.specs.Refusal.{section_refusal}
 use Rattle.section.specs.Has.{concrete_area, steel_area, steel_moment, last_depth}
 use Rattle.section.specs.declared.Layer.{Layer}
-use Rattle.section.specs.Added.{layer_refusal, with_layer}
+use Rattle.section.specs.declared.NotAdded.{NotAdded}
+use Rattle.section.specs.Added.{layer_refusal, with_layer, by_refusal, Adds}
 use Rattle.section.specs.Accepted.{ConcreteIn, SizesIn, FlangeIn}
 use Rattle.law.specs.declared.Law.{Law}
 use Rattle.law.specs.declared.Lawful.{Lawful}
@@ -46,11 +47,11 @@ use Rattle.demands.specs.Every.{as_list}
 use Rattle.demands.specs.Table.{◌unless◌}
 use Rattle.demands.specs.Demand1.{ByTable}
 use Rattle.demands.specs.Demand2.{ListIs}
-use Rattle.demands.specs.Request4.{plain_lines, Flat, rectangle, its_law, Level, Two, plain_imbalance, plain_moment, plain_shear}
+use Rattle.demands.specs.Request4.{plain_lines, Flat, rectangle, flat_back, its_law, Level, Two, plain_imbalance, plain_moment, plain_shear}
 use Rattle.demands.specs.Request4.{ListBefore, FirstBefore, rib, rib_record, Request4}
 use Rattle.demands.proofs.Demand2.{list_is, first_is, list_of_is}
 use Rattle.demands.proofs.Results as Results
-use Rattle.demands.proofs.Results.{value_is, made, by_number}
+use Rattle.demands.proofs.Results.{value_is, made, by_number, one_added}
 use Rattle.demands.proofs.Shapes.{imbalance_shown, moment_shown, shear_shown, first_shown, list_in, list_there, first_in, first_there}
 use Rattle.demands.proofs.Table.{exactly, without_line, section_first}
 use Rattle.demands.proofs.Plain.{Plain, flat_plain, level_plain, imbalance_plain, moment_plain, list_plain, shear_plain}
@@ -83,16 +84,25 @@ steel_alike :
 unfolding steel_area steel_moment
 steel_alike s r a m b n = λ j. record { area = alike steel_area {s = s} refl r a b j; moment = alike steel_moment {s = s} refl r m n j }
 
+by_flat : (x : Result Section NotAdded) → by_refusal (result_map_both rectangle flat_back x) ≡ result_map_both rectangle (λ e. e) (by_refusal x)
+by_flat (Ok u) = refl
+by_flat (Err e) = refl
+
+back_flat :
+    (s t : Section) (x : Result Section NotAdded) → t ≡ rectangle s → IfErr x (λ e. e.section ≡ s)
+    → IfErr (result_map_both rectangle flat_back x) (λ e. e.section ≡ t)
+back_flat s t (Ok u) r p = tt
+back_flat s t (Err e) r p = ap rectangle p ∙ sym r
+
 added :
-    (s : Section) {t : Section} {d e a b : ℕ} {x y : Result Section Refusal} → t ≡ rectangle s → e ≡ d → b ≡ a
-    → Answers (layer_refusal s (record { depth = d; area = a })) (with_layer s (record { depth = d; area = a })) x
-    → Answers (layer_refusal t (record { depth = e; area = b })) (with_layer t (record { depth = e; area = b })) y
-    → result_map_both rectangle (λ e. e) x ≡ y
-added s {d = d} {a = a} r p q is js =
+    (s : Section) {t : Section} {d e a b : ℕ} {x y : Result Section NotAdded} → t ≡ rectangle s → e ≡ d → b ≡ a
+    → Adds s (record { depth = d; area = a }) x → Adds t (record { depth = e; area = b }) y → result_map_both rectangle flat_back x ≡ y
+added s {t} {d = d} {a = a} {x = x} {y = y} r p q is js =
     let l : Layer = record { depth = d; area = a } in
     let layer : (j : 𝕀) → Layer = λ j. record { depth = sym p j; area = sym q j } in
-    Results.alike (taken_alike s l ∙ (λ j. layer_refusal (sym r j) (layer j))) (λ none. added_alike s l ∙ (λ j. with_layer (sym r j) (layer j)))
-    (made rectangle is) js
+    let same = Results.alike (taken_alike s l ∙ (λ j. layer_refusal (sym r j) (layer j))) (λ none. added_alike s l ∙ (λ j. with_layer (sym r j) (layer j)))
+    (made rectangle is.answer) js.answer in
+    one_added t _ y (by_flat x ∙ same) (back_flat s t x r is.back) js.back
 
 -- what is filed: refused alike, and else the same bytes
 filed_alike :

@@ -5,11 +5,14 @@ use mathlib.Core.Bool.{false≢true}
 use mathlib.Core.Logic.{◌↔◌}
 use mathlib.Core.List.{List}
 use native.Mathlib.Omega.{arith}
-use Rattle.std.specs.Prelude.{Result, Ok, Err, IfOk, IsOk}
+use Rattle.std.specs.Prelude.{Result, Ok, Err, IfOk, IfErr, IsOk}
 use Rattle.std.specs.Result.{result_map_both}
 use Rattle.refusal.specs.declared.Refusal.{Refusal}
 use Rattle.refusal.specs.Refusal.{number_of, Answers}
 use Rattle.refusal.proofs.Answers.{number_in, number_own, of_result, one_answer}
+use Rattle.section.specs.declared.Section.{Section}
+use Rattle.section.specs.declared.NotAdded.{NotAdded}
+use Rattle.section.specs.Added.{by_refusal}
 use Rattle.demands.specs.Table.{Line, First}
 use Rattle.demands.specs.Demand1.{ByTable}
 use Rattle.demands.proofs.Table.{exactly}
@@ -56,3 +59,21 @@ made f {n} {v} a =
 pub by_number : {n : ℕ} (x : Result Unit Refusal) → number_of x ≡ n → Answers n tt x
 by_number (Ok u) e = record { number = e; value = refl }
 by_number (Err f) e = record { number = e; value = tt }
+
+-- ---- of a layer that is added
+pub added_ok : (P : Section → Type 0) (x : Result Section NotAdded) → IfOk (by_refusal x) P → IfOk x P
+added_ok P (Ok s) p = p
+added_ok P (Err e) p = tt
+
+-- by what it is refused by, and the section beside that
+abbrev returned : Section → Result Section Refusal → Result Section NotAdded
+returned s = result_map_both (λ t. t) (λ r. record { refusal = r; section = s })
+
+back_is : (s : Section) (x : Result Section NotAdded) → IfErr x (λ e. e.section ≡ s) → returned s (by_refusal x) ≡ x
+back_is s (Ok t) p = refl
+back_is s (Err e) p = λ i. Err (record { refusal = e.refusal; section = sym p i })
+
+pub one_added :
+    (s : Section) (x y : Result Section NotAdded) → by_refusal x ≡ by_refusal y
+    → IfErr x (λ e. e.section ≡ s) → IfErr y (λ e. e.section ≡ s) → x ≡ y
+one_added s x y e p q = sym (back_is s x p) ∙ ap (returned s) e ∙ back_is s y q

@@ -20,9 +20,11 @@ OneIn {n} c read =
 
 -- of each public function
 pub record Decided : Type 0 where
+  pub number_from : One Contracts.number_from
   pub root : One Contracts.root
   pub check : One Contracts.check
   pub with_layer_call : One Contracts.with_layer_call
+  pub not_added_from : One Contracts.not_added_from
   pub last_depth_call : One Contracts.last_depth_call
   pub steel : One Contracts.steel
   pub law_of_call : One Contracts.law_of_call
@@ -40,6 +42,9 @@ pub record Decided : Type 0 where
   pub depths : One Contracts.depths
   pub depths_row : OneIn Contracts.depths (λ κs x e. e.1.0.now)
   pub first : One Contracts.first
+  pub kind_from : One Contracts.kind_from
+  pub unlisted_from : One Contracts.unlisted_from
+  pub refusal_from : One Contracts.refusal_from
   pub shear : One Contracts.shear
   pub as_slice : OneIn Contracts.as_slice (λ κs x e. x.now)
   pub byte : One Contracts.byte
@@ -56,6 +61,7 @@ pub record Decided : Type 0 where
   pub write_book_bytes : OneIn Contracts.write_book (λ κs x e. e.1.0.now)
   pub add_layer : One Contracts.add_layer
   pub add_layer_bytes : OneIn Contracts.add_layer (λ κs x e. e.1.1.1.0.now)
+  pub letter_from : One Contracts.letter_from
   pub class : One Contracts.class
   pub strength : One Contracts.strength
   pub book_from : One Contracts.book_from

@@ -8,6 +8,7 @@ use Rattle.std.specs.Prelude.{ℕ, ◌≡◌, ◌⊎◌, ◌↔◌, List, [], �
 use Rattle.refusal.specs.declared.Refusal.{Refusal}
 use Rattle.refusal.specs.Refusal.{number, number_of}
 use Rattle.section.specs.declared.Section.{Section}
+use Rattle.section.specs.Added.{by_refusal}
 use Rattle.depths.specs.declared.Unlisted.TheVariants.{Refused}
 use Rattle.depths.specs.Depths.{listed}
 use Rattle.depths.specs.Answers.{ListAnswer, FirstAnswer, whole_work}
@@ -71,10 +72,11 @@ HandsOn r refusal zeros = IfErr r (λ e. (refusal ≡ number e) × zeros)
 pub record Demand1 : Type 0 where
   -- it expects nothing of its caller
   pub free : Free
-  -- a section: 7 to 13 with 20; under 12 a layer is not added
+  -- a section: 7 to 13 with 20; under 12 a layer is not added, and beside it stands the section as it came
   pub check : Every.check (λ s x. ByTable (section_lines s) (number_of x))
   pub with_layer_call :
-      Every.with_layer_call (λ s depth area x. ByTable (layer_lines s (record { depth = depth; area = area })) (number_of x))
+      Every.with_layer_call
+      (λ s depth area x. Refuses (layer_lines s (record { depth = depth; area = area })) (number_of (by_refusal x)) (IfErr x (λ e. e.section ≡ s)))
   pub law_of_call : Every.law_of_call (λ s x. ByTable (section_lines s) (number_of x))
   pub lawful_of : Every.lawful_of (λ s x. ByTable (section_lines s) (number_of x))
   pub draw : Every.draw (λ s e x. ByTable (strain_lines s e) (number_of x))

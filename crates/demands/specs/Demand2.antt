@@ -1,13 +1,14 @@
 -- Demand 2: a section with a layer added, class, stress, imbalance, moment and shear equal the rules to the last rounding; a record read from a book
 -- shows exactly the bytes filed.
 use Rattle.std.specs.Prelude.{ℕ, ◌+◌, ◌*◌, ◌-◌, ◌/◌, ◌^◌, ◌≤◌, ◌<◌, ◌≡◌, true, ◌↔◌, List, leb, ℤ, pos, ◌*ℤ◌, length, get_or, take, ◌≤ℤ◌}
-use Rattle.std.specs.Prelude.{Ok, IfOk, IsOk}
+use Rattle.std.specs.Prelude.{Ok, Err, IfOk, IsOk}
 use Rattle.std.specs.Int.Signed.{mag}
 use Rattle.arith.specs.Floor.{RoundsDown}
 use Rattle.arith.specs.Joined.{over}
 use Rattle.arith.specs.Sums.{sum_z, after, sum_over}
 use Rattle.arith.specs.Largest.{Largest, largest}
 use Rattle.arith.specs.Least.{Least, multiple}
+use Rattle.refusal.specs.Refusal.{number}
 use Rattle.roots.specs.Root.{raised, past, Root}
 use Rattle.section.specs.declared.Layer.{Layer}
 use Rattle.section.specs.declared.Section.{Section}
@@ -25,7 +26,8 @@ use Rattle.drawn.specs.Pieces.{evaluated}
 use Rattle.strips.specs.declared.Range.{Range}
 use Rattle.strips.specs.Strips.{scale_of, strip_size, strip_at}
 use Rattle.forces.specs.Forces.{strain_scale, bar_at, imbalance, moment}
-use Rattle.depths.specs.Depths.{entry_of, listed, written}
+use Rattle.depths.specs.declared.Unlisted.TheVariants.{Refused}
+use Rattle.depths.specs.Depths.{entry_of, listed, written, kind_number}
 use Rattle.depths.specs.Answers.{ListAnswer, FirstAnswer, told, told_first, whole_work, first_of_list}
 use Rattle.shear.specs.Shear.{squared, cubed, axial_share, resistance}
 use Rattle.record.specs.Record.{Bytes, le32_at, record_size, layers_at, size_at, section_in}
@@ -113,6 +115,9 @@ Between sum x = (x.low ≤ℤ sum) × (sum ≤ℤ x.high)
 
 -- of every call of each public function that answers anything: what, where it does not refuse
 pub record Demand2 : Type 0 where
+  -- the number of a refusal; that of a layer that is not added
+  pub number_from : Every.number_from (λ r x. x ≡ number r)
+  pub not_added_from : Every.not_added_from (λ e x. x ≡ e.refusal)
   -- a section
   pub check : Every.check (λ s x. IsOk x ↔ Accepted s)
   pub with_layer_call : Every.with_layer_call (λ s depth area x. IfOk x (LayerAdded s (record { depth = depth; area = area })))
@@ -141,6 +146,10 @@ pub record Demand2 : Type 0 where
   pub moment_is : Every.moment (λ s d x. IfOk x (λ n. n ≡ moment s d))
   pub depths : Every.depths (λ s before x after. x.refusal ≡ 0 → ListIs s before x after)
   pub first : Every.first (λ s x. x.refusal ≡ 0 → FirstIs s x)
+  -- the number of a kind; why there is no list, where the section is refused, and the refusal that it is
+  pub kind_from : Every.kind_from (λ k x. x ≡ kind_number k)
+  pub unlisted_from : Every.unlisted_from (λ r x. x ≡ Refused r)
+  pub refusal_from : Every.refusal_from (λ u x. number x ≡ (told (Err u)).refusal)
   -- a root, of so many digits of it; shear, whose roots are the largest of all numbers, and whose axial share is rounded towards minus infinity
   pub root : Every.root (λ cube digits by bound x. Root (raised cube by) (past digits) bound x)
   pub shear : Every.shear (λ s x. IfOk x (λ n. n ≡ pos (resistance s)))
@@ -166,7 +175,8 @@ pub record Demand2 : Type 0 where
   pub write_book : Every.write_book (λ records before x after. IfOk x (λ len. BookPut records before len after))
   pub add_layer :
       Every.add_layer (λ part depth area before x after. IfOk x (λ len. LayerPut part (record { depth = depth; area = area }) before len after))
-  -- a class
+  -- a class, and its letter as its byte
+  pub letter_from : Every.letter_from (λ letter x. x ≡ ascii letter)
   pub class : Every.class (λ fr1 fr3 x. IfOk x (λ c. ClassIs fr1 fr3 c.step (ascii c.letter)))
   -- a strength
   pub strength : Every.strength (λ rs x. IfOk x (λ y. StrengthIs rs y.mean y.deviation y.value))

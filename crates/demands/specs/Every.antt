@@ -5,6 +5,7 @@ use contract.Lifetimes.{Lfts}
 use denote.Triple.Clauses.{AtExit}
 use borrow.Fn.Kinds.{Dens, res_t, ended_of, Out}
 use Rattle.refusal.specs.declared.Refusal.{Refusal}
+use Rattle.section.specs.declared.NotAdded.{NotAdded}
 use Rattle.section.specs.declared.Section.{Section}
 use Rattle.section.specs.declared.Steel.{Steel}
 use Rattle.law.specs.declared.Law.{Law}
@@ -13,12 +14,14 @@ use Rattle.drawn.specs.declared.Piece.{Piece}
 use Rattle.drawn.specs.declared.Point.{Point}
 use Rattle.strips.specs.declared.Axis.{Axis}
 use Rattle.strips.specs.declared.Range.{Range}
+use Rattle.depths.specs.declared.Kind.{Kind}
 use Rattle.depths.specs.declared.Listing as Listed
 use Rattle.depths.specs.declared.FirstDepth as Firsts
 use Rattle.depths.specs.declared.Unlisted.{Unlisted}
 use Rattle.depths.specs.Answers.{ListAnswer, told, FirstAnswer, told_first}
 use Rattle.book.specs.declared.Place.{Place}
 use Rattle.class.specs.declared.answer.Class.{Class}
+use Rattle.class.specs.declared.answer.Letter.{Letter}
 use Rattle.strength.specs.declared.answer.Strength.{Strength}
 use Rattle.panel.specs.declared.answers.Amount.{Amount}
 use Rattle.panel.specs.declared.answers.Drawn.{Drawn}
@@ -38,6 +41,10 @@ Tells {n} c says =
     (κs : Lfts n) (a : Dens κs c.takes) (x : (res_t c.gives κs).Denot) (e : AtExit (ended_of n c.takes c.gives) κs)
     → c.told κs a x e → says κs a x e
 
+-- ---- the number of a refusal
+abbrev pub number_from : (Refusal → ℕ → Type 0) → Type 0
+number_from says = Tells Contracts.number_from (λ κs a x e. says a.0 x)
+
 -- ---- roots
 abbrev pub root : (Bool → ℕ → ℕ → ℕ → ℕ → Type 0) → Type 0
 root says = Tells Contracts.root (λ κs a x e. says a.0 a.1.0 a.1.1.0 a.1.1.1.0 x)
@@ -46,8 +53,11 @@ root says = Tells Contracts.root (λ κs a x e. says a.0 a.1.0 a.1.1.0 a.1.1.1.0
 abbrev pub check : (Section → Result Unit Refusal → Type 0) → Type 0
 check says = Tells Contracts.check (λ κs a x e. says a.0 x)
 
-abbrev pub with_layer_call : (Section → ℕ → ℕ → Result Section Refusal → Type 0) → Type 0
+abbrev pub with_layer_call : (Section → ℕ → ℕ → Result Section NotAdded → Type 0) → Type 0
 with_layer_call says = Tells Contracts.with_layer_call (λ κs a x e. says a.0 a.1.0 a.1.1.0 x)
+
+abbrev pub not_added_from : (NotAdded → Refusal → Type 0) → Type 0
+not_added_from says = Tells Contracts.not_added_from (λ κs a x e. says a.0 x)
 
 abbrev pub last_depth_call : (Section → ℕ → Type 0) → Type 0
 last_depth_call says = Tells Contracts.last_depth_call (λ κs a x e. says a.0 x)
@@ -102,6 +112,15 @@ depths says = Tells Contracts.depths (λ κs a x e. says a.0 a.1.0.now (told x) 
 abbrev pub first : (Section → FirstAnswer → Type 0) → Type 0
 first says = Tells Contracts.first (λ κs a x e. says a.0 (told_first x))
 
+abbrev pub kind_from : (Kind → ℕ → Type 0) → Type 0
+kind_from says = Tells Contracts.kind_from (λ κs a x e. says a.0 x)
+
+abbrev pub unlisted_from : (Refusal → Unlisted → Type 0) → Type 0
+unlisted_from says = Tells Contracts.unlisted_from (λ κs a x e. says a.0 x)
+
+abbrev pub refusal_from : (Unlisted → Refusal → Type 0) → Type 0
+refusal_from says = Tells Contracts.refusal_from (λ κs a x e. says a.0 x)
+
 -- ---- shear
 abbrev pub shear : (Section → Result ℤ Refusal → Type 0) → Type 0
 shear says = Tells Contracts.shear (λ κs a x e. says a.0 x)
@@ -149,6 +168,9 @@ abbrev pub add_layer : (List ℕ → ℕ → ℕ → List ℕ → Result ℕ Ref
 add_layer says = Tells Contracts.add_layer (λ κs a x e. says a.0.now a.1.0 a.1.1.0 a.1.1.1.0.now x e.1.1.1.0.now)
 
 -- ---- class
+abbrev pub letter_from : (Letter → ℕ → Type 0) → Type 0
+letter_from says = Tells Contracts.letter_from (λ κs a x e. says a.0 x)
+
 abbrev pub class : (ℕ → ℕ → Result Class Refusal → Type 0) → Type 0
 class says = Tells Contracts.class (λ κs a x e. says a.0 a.1.0 x)
 

@@ -7,14 +7,19 @@ use Rattle.shear.specs.Shear.{k_of, c_of}
 use Rattle.class.specs.declared.answer.Class.{Class}
 use Rattle.class.specs.declared.answer.Letter.TheVariants.{A, C, D}
 use Rattle.class.specs.Class.{class_refusal, class_of}
+use Rattle.panel.specs.Answers.{classed, no_class}
+use Rattle.panel.specs.Face.{class_answer}
 
 -- fck 30, d 250, feq2 3000, feq3 2500; the bars, of fyk 500 and at that depth, are not in its figures
 abbrev pub law250 : Law
 law250 = law_by 30 250 250 500 3000 2500
 
--- fR1 and fR3 give a class
+-- fR1 and fR3 give a class, which C gets beside 0; or 17, beside zeros
 abbrev pub Classed : (fr1 fr3 : ℕ) → Class → Type 0
-Classed fr1 fr3 c = (class_refusal fr1 fr3 ≡ 0) × (class_of fr1 fr3 ≡ c)
+Classed fr1 fr3 c = (class_refusal fr1 fr3 ≡ 0) × (class_of fr1 fr3 ≡ c) × (class_answer fr1 fr3 ≡ classed c)
+
+abbrev pub Unclassed : (fr1 fr3 : ℕ) → Type 0
+Unclassed fr1 fr3 = (class_refusal fr1 fr3 ≡ 17) × (class_answer fr1 fr3 ≡ no_class 17)
 
 abbrev pub Figures : Type 0
 Figures =
@@ -22,8 +27,8 @@ Figures =
     × Classed 1220 1060 (record { step = 1000; letter = C })
     × Classed 3999 3500 (record { step = 3500; letter = C })
     × Classed 4000 2000 (record { step = 4000; letter = A })
-    × (class_refusal 4000 1999 ≡ 17)
-    × (class_refusal 999 5000 ≡ 17)
+    × Unclassed 4000 1999
+    × Unclassed 999 5000
     × (law250.s1 ≡ 4536)
     × (law250.e1 ≡ 141)
     × (law250.s2 ≡ 1350)

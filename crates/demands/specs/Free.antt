@@ -11,9 +11,11 @@ AsksNothing {n} c = (κs : Lfts n) (a : Dens κs c.takes) → c.asked κs a
 
 -- of each public function
 pub record Free : Type 0 where
+  pub number_from : AsksNothing Contracts.number_from
   pub root : AsksNothing Contracts.root
   pub check : AsksNothing Contracts.check
   pub with_layer_call : AsksNothing Contracts.with_layer_call
+  pub not_added_from : AsksNothing Contracts.not_added_from
   pub last_depth_call : AsksNothing Contracts.last_depth_call
   pub steel : AsksNothing Contracts.steel
   pub law_of_call : AsksNothing Contracts.law_of_call
@@ -30,6 +32,9 @@ pub record Free : Type 0 where
   pub moment : AsksNothing Contracts.moment
   pub depths : AsksNothing Contracts.depths
   pub first : AsksNothing Contracts.first
+  pub kind_from : AsksNothing Contracts.kind_from
+  pub unlisted_from : AsksNothing Contracts.unlisted_from
+  pub refusal_from : AsksNothing Contracts.refusal_from
   pub shear : AsksNothing Contracts.shear
   pub as_slice : AsksNothing Contracts.as_slice
   pub byte : AsksNothing Contracts.byte
@@ -44,6 +49,7 @@ pub record Free : Type 0 where
   pub record_part : AsksNothing Contracts.record_part
   pub write_book : AsksNothing Contracts.write_book
   pub add_layer : AsksNothing Contracts.add_layer
+  pub letter_from : AsksNothing Contracts.letter_from
   pub class : AsksNothing Contracts.class
   pub strength : AsksNothing Contracts.strength
   pub book_from : AsksNothing Contracts.book_from

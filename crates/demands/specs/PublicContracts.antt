@@ -2,12 +2,16 @@
 -- that a statement over it can't drift from the contract: where that tells less or asks for more, the statement's proof fails.
 use Rattle.std.specs.Prelude.{ℕ, List}
 use borrow.Fn.Kinds.{ParamKind, ResultKind, In, Out}
+use Rattle.refusal.proofs.U32FromRefusal.from.Kinds as NumberFrom
+use Rattle.refusal.proofs.U32FromRefusal.from.Reads as NumberFromReads
 use Rattle.roots.proofs.root.Kinds as Root
 use Rattle.roots.proofs.root.Reads as RootReads
 use Rattle.section.proofs.Section.check.Kinds as SectionCheck
 use Rattle.section.proofs.Section.check.Reads as SectionCheckReads
 use Rattle.section.proofs.Section.with_layer.Kinds as WithLayer
 use Rattle.section.proofs.Section.with_layer.Reads as WithLayerReads
+use Rattle.section.proofs.RefusalFromNotAdded.from.Kinds as NotAddedFrom
+use Rattle.section.proofs.RefusalFromNotAdded.from.Reads as NotAddedFromReads
 use Rattle.section.proofs.Section.last_depth.Kinds as LastDepth
 use Rattle.section.proofs.Section.last_depth.Reads as LastDepthReads
 use Rattle.section.proofs.Section.steel.Kinds as Steel
@@ -40,6 +44,12 @@ use Rattle.depths.proofs.depths.Kinds as Depths
 use Rattle.depths.proofs.depths.Reads as DepthsReads
 use Rattle.depths.proofs.first.Kinds as First
 use Rattle.depths.proofs.first.Reads as FirstReads
+use Rattle.depths.proofs.U32FromKind.from.Kinds as KindFrom
+use Rattle.depths.proofs.U32FromKind.from.Reads as KindFromReads
+use Rattle.depths.proofs.UnlistedFromRefusal.from.Kinds as UnlistedFrom
+use Rattle.depths.proofs.UnlistedFromRefusal.from.Reads as UnlistedFromReads
+use Rattle.depths.proofs.RefusalFromUnlisted.from.Kinds as RefusalFrom
+use Rattle.depths.proofs.RefusalFromUnlisted.from.Reads as RefusalFromReads
 use Rattle.shear.proofs.shear.Kinds as Shear
 use Rattle.shear.proofs.shear.Reads as ShearReads
 use Rattle.record.proofs.RecordBytes.as_slice.Kinds as AsSlice
@@ -68,6 +78,8 @@ use Rattle.writer.proofs.write_book.Kinds as WriteBook
 use Rattle.writer.proofs.write_book.Reads as WriteBookReads
 use Rattle.writer.proofs.add_layer.Kinds as AddLayer
 use Rattle.writer.proofs.add_layer.Reads as AddLayerReads
+use Rattle.class.proofs.answer.U32FromLetter.from.Kinds as LetterFrom
+use Rattle.class.proofs.answer.U32FromLetter.from.Reads as LetterFromReads
 use Rattle.class.proofs.class.Kinds as Class
 use Rattle.class.proofs.class.Reads as ClassReads
 use Rattle.strength.proofs.strength.Kinds as Strength
@@ -122,6 +134,9 @@ pub record Contract (n : ℕ) : Type 3 where
   pub asked : In n takes
   pub told : Out n takes gives
 
+abbrev pub number_from : Contract 0
+number_from = record { takes = NumberFrom.ps; gives = NumberFrom.r; asked = NumberFromReads.Asked; told = NumberFromReads.Learnt }
+
 abbrev pub root : Contract 0
 root = record { takes = Root.ps; gives = Root.r; asked = RootReads.Asked; told = RootReads.Learnt }
 
@@ -130,6 +145,9 @@ check = record { takes = SectionCheck.ps; gives = SectionCheck.r; asked = Sectio
 
 abbrev pub with_layer_call : Contract 0
 with_layer_call = record { takes = WithLayer.ps; gives = WithLayer.r; asked = WithLayerReads.Asked; told = WithLayerReads.Learnt }
+
+abbrev pub not_added_from : Contract 0
+not_added_from = record { takes = NotAddedFrom.ps; gives = NotAddedFrom.r; asked = NotAddedFromReads.Asked; told = NotAddedFromReads.Learnt }
 
 abbrev pub last_depth_call : Contract 0
 last_depth_call = record { takes = LastDepth.ps; gives = LastDepth.r; asked = LastDepthReads.Asked; told = LastDepthReads.Learnt }
@@ -179,6 +197,15 @@ depths = record { takes = Depths.ps; gives = Depths.r; asked = DepthsReads.Asked
 abbrev pub first : Contract 0
 first = record { takes = First.ps; gives = First.r; asked = FirstReads.Asked; told = FirstReads.Learnt }
 
+abbrev pub kind_from : Contract 0
+kind_from = record { takes = KindFrom.ps; gives = KindFrom.r; asked = KindFromReads.Asked; told = KindFromReads.Learnt }
+
+abbrev pub unlisted_from : Contract 0
+unlisted_from = record { takes = UnlistedFrom.ps; gives = UnlistedFrom.r; asked = UnlistedFromReads.Asked; told = UnlistedFromReads.Learnt }
+
+abbrev pub refusal_from : Contract 0
+refusal_from = record { takes = RefusalFrom.ps; gives = RefusalFrom.r; asked = RefusalFromReads.Asked; told = RefusalFromReads.Learnt }
+
 abbrev pub shear : Contract 0
 shear = record { takes = Shear.ps; gives = Shear.r; asked = ShearReads.Asked; told = ShearReads.Learnt }
 
@@ -220,6 +247,9 @@ write_book = record { takes = WriteBook.ps; gives = WriteBook.r; asked = WriteBo
 
 abbrev pub add_layer : Contract 2
 add_layer = record { takes = AddLayer.ps; gives = AddLayer.r; asked = AddLayerReads.Asked; told = AddLayerReads.Learnt }
+
+abbrev pub letter_from : Contract 0
+letter_from = record { takes = LetterFrom.ps; gives = LetterFrom.r; asked = LetterFromReads.Asked; told = LetterFromReads.Learnt }
 
 abbrev pub class : Contract 0
 class = record { takes = Class.ps; gives = Class.r; asked = ClassReads.Asked; told = ClassReads.Learnt }

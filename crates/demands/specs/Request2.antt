@@ -42,6 +42,9 @@ FirstKept s x = x ≡ first_of_list s (entry_of (listed_under (deepest_law s) s)
 pub record Request2 : Type 0 where
   pub without_bars : Every.law_of_call (λ s x. IfOk x (λ l. s.count ≡ 0 → (l.d ≡ s.h) × (l.limit ≡ s.h)))
   pub with_bars : Every.law_of_call (λ s x. IfOk x (λ l. 0 < s.count → TwoDepths s l))
+  -- and of the law that the calls below go by
+  pub lawful_without_bars : Every.lawful_of (λ s x. IfOk x (λ l. s.count ≡ 0 → (l.law.d ≡ s.h) × (l.law.limit ≡ s.h)))
+  pub lawful_with_bars : Every.lawful_of (λ s x. IfOk x (λ l. 0 < s.count → TwoDepths s l.law))
   -- every figure of a section that has one steel
   pub law_of_call : Every.law_of_call (λ s x. OneSteel s → IfOk x (λ l. l ≡ deepest_law s))
   pub lawful_of : Every.lawful_of (λ s x. OneSteel s → IfOk x (λ l. l.law ≡ deepest_law s))

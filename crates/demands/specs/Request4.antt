@@ -7,6 +7,7 @@ use Rattle.arith.specs.Floor.{floor_div}
 use Rattle.refusal.specs.declared.Refusal.{Refusal}
 use Rattle.refusal.specs.Refusal.{number_of}
 use Rattle.section.specs.declared.Section.{Section}
+use Rattle.section.specs.declared.NotAdded.{NotAdded}
 use Rattle.section.specs.Section.{no_layer}
 use Rattle.section.specs.Accepted.{ConcreteIn, SizesIn, SteelIn, FibresIn, LoadIn, BarsIn, StirrupsIn}
 use Rattle.section.specs.Has.{concrete_area, steel_area, load_of, last_depth}
@@ -56,6 +57,10 @@ Alike every is = every (λ s x. is s → every (λ t y. t ≡ rectangle s → x 
 
 abbrev pub AlikeAt : {D X : Type 0} → ((Section → D → X → Type 0) → Type 0) → (Section → Type 0) → Type 0
 AlikeAt every is = every (λ s d x. is s → every (λ t e y. t ≡ rectangle s → e ≡ d → x ≡ y))
+
+-- of a layer that is not added: the section that comes back is one
+abbrev pub flat_back : NotAdded → NotAdded
+flat_back e = record { refusal = e.refusal; section = rectangle e.section }
 
 -- of a law that has its section with it: refused alike, and the law is
 abbrev pub its_law : Result Lawful Refusal → Result Law Refusal
@@ -151,7 +156,7 @@ pub record Request4 : Type 0 where
   pub with_layer_call :
       Every.with_layer_call
       (λ s depth area x. Flat s →
-      Every.with_layer_call (λ t d a y. t ≡ rectangle s → d ≡ depth → a ≡ area → result_map_both rectangle (λ e. e) x ≡ y))
+      Every.with_layer_call (λ t d a y. t ≡ rectangle s → d ≡ depth → a ≡ area → result_map_both rectangle flat_back x ≡ y))
   pub last_depth_call : Alike Every.last_depth_call Flat
   pub steel : Alike Every.steel Flat
   pub law_of_call : Alike Every.law_of_call Flat

@@ -1,17 +1,18 @@
 -- The kinds that the code keeps, from one listed depth to the next. Assumes nothing.
 use Prim.Native.Nat.{ℕ, zero, suc, ◌+◌, ◌*◌, ◌≤◌, ◌<◌}
 use mathlib.Core.Path.{◌≡◌, refl, sym, ap, ◌∙◌}
-use mathlib.Core.List.{List}
+use mathlib.Core.Bool.{cond}
+use mathlib.Core.List.{List, [], ◌∷◌}
 use mathlib.Core.Logic.{⊎_elim}
 use native.Mathlib.Nat.{eq-or-lt_of_le}
 use native.Mathlib.Omega.{arith}
-use lib.ListN.{length, get_or, set, take, replicate}
+use lib.ListN.{length, get_or, set, take, replicate, get_or-map}
 use lib.Seq.{get_or-set_same, get_or-set_other}
 use borrow.Author.Tests.{lt-ltb, le-ltb}
 use Rattle.arith.proofs.Tests.{less_or_not}
 use Rattle.section.specs.declared.Section.{Section}
 use Rattle.depths.specs.Depths.{kind_number, kind_at, list_to, listed}
-use Rattle.std.specs.Prelude.{Option, None, Some, is_some, count_by}
+use Rattle.std.specs.Prelude.{map, Option, None, Some, is_some, count_by}
 use Rattle.std.specs.declared.cmp.Ordering.{Ordering}
 use Rattle.depths.specs.declared.Kind.{Kind}
 use Rattle.depths.specs.declared.walk.Listed.{Listed}
@@ -21,11 +22,13 @@ use Rattle.section.specs.Has.{last_depth}
 use Rattle.depths.proofs.Sided.{kind_some}
 use Rattle.depths.proofs.Next.{open_most}
 use Rattle.depths.proofs.Listed.{list_skips, count_more, count_grows}
-use Rattle.std.proofs.lemmas.List.{get_or-take}
+use Rattle.std.proofs.lemmas.List.{get_or-take, length-map, map-set, take-map}
 use Rattle.forces.specs.Forces.{moment}
-use Rattle.std.proofs.lemmas.List.Sums.{count_by_more_no, count_by_more_yes}
+use Rattle.std.proofs.lemmas.List.Sums.{count_by_more_no, count_by_more_yes, sum_by-cons}
 use native.Mathlib.Numerals.{add-one}
-use Rattle.depths.specs.Code.{open_from, NoneTo, Next, kept_number, Kept}
+use Rattle.depths.specs.declared.list.Mark.{Mark}
+use Rattle.depths.specs.declared.list.Mark.TheVariants.{Unlisted}
+use Rattle.depths.specs.Code.{open_from, NoneTo, Next, kind_of, kept_number, Kept}
 
 module _ (s : Section) {depth : ℕ} (kept : List (Option Kind)) (k : Kept s depth kept) where
   pub kept_there : (i : ℕ) → i + 1 < depth → kept_number (get_or kept i None) ≡ kind_at s (i + 1)
@@ -56,11 +59,11 @@ module _ (s : Section) {depth : ℕ} (kept : List (Option Kind)) (k : Kept s dep
       other : (i ≡ at → ⊥) → kept_number (get_or (set kept at (Some z)) i None) ≡ kept_number (get_or kept i None)
       other h = ap kept_number (get_or-set_other kept at i (Some z) None h)
 
--- the walk's next depth, and none before it
+-- a depth with its kind, and none from the next one on as far as another
 pub kept_next :
-    (s : Section) {from : ℕ} (kept : List (Option Kind)) → Kept s from kept → {l : Listed} {looked : ℕ} {sign : Option Ordering} → Next s from l looked sign
-    → (at : ℕ) → at + 1 ≡ l.depth → at < length kept → Kept s (open_from looked sign) (set kept at (Some l.kind))
-kept_next s kept k {l} next at e room = rw next.on_from (kept_more s kept (kept_on s kept k l.depth next.on next.none) at l.kind e room next.kind)
+    (s : Section) {depth : ℕ} (kept : List (Option Kind)) → Kept s depth kept → (at : ℕ) (z : Kind) → at + 1 ≡ depth → at < length kept
+    → kind_number z ≡ kind_at s depth → {from to : ℕ} → from ≡ depth + 1 → from ≤ to → NoneTo s from to → Kept s to (set kept at (Some z))
+kept_next s kept k at z e room is next h none = kept_on s (set kept at (Some z)) (kept_more s kept k at z e room is) _ (omega arith) (rw next at none)
 
 -- the walk's end
 pub kept_all :
@@ -118,3 +121,35 @@ module _ (s : Section) (kept : List (Option Kind)) (k : Kept s (last_depth s + 1
   unfolding list_to
   counted zero inside room = refl
   counted (suc n) inside room = let next = counted_next n inside room (counted n (omega arith) (omega arith)) in rw add-one at next
+
+-- ---- the marks that the kinds are kept as
+none_marked : (n : ℕ) → map kind_of (replicate n Unlisted) ≡ replicate n None
+none_marked zero = refl
+none_marked (suc n) = ap (λ (l : List (Option Kind)). None ∷ l) (none_marked n)
+
+pub no_mark_yet : (s : Section) (n : ℕ) → Kept s 1 (map kind_of (replicate n Unlisted))
+no_mark_yet s n = rw (none_marked n) (none_yet s n)
+
+counted_marks : (kept : List Mark) → count_by (λ m. is_some (kind_of m)) kept ≡ count_by is_some (map kind_of kept)
+counted_marks [] = refl
+counted_marks (m ∷ ms) =
+    sum_by-cons (λ (n : Mark). cond (is_some (kind_of n)) 1 0) m ms ∙ ap (λ (n : ℕ). cond (is_some (kind_of m)) 1 0 + n) (counted_marks ms)
+    ∙ sym (sum_by-cons (λ (z : Option Kind). cond (is_some z) 1 0) (kind_of m) (map kind_of ms))
+
+module _ (kept : List Mark) where
+  -- the walk's next depth, and none before it
+  pub mark_next :
+      (s : Section) {from : ℕ} → Kept s from (map kind_of kept) → {l : Listed} {looked : ℕ} {sign : Option Ordering} → Next s from l looked sign
+      → (at : ℕ) → at + 1 ≡ l.depth → at < length kept → (m : Mark) → kind_of m ≡ Some l.kind
+      → Kept s (open_from looked sign) (map kind_of (set kept at m))
+  mark_next s k {l} next at e room m is =
+      rw (map-set kind_of kept at m, is)
+      (kept_next s (map kind_of kept) (kept_on s (map kind_of kept) k l.depth next.on next.none) at l.kind e (omega (arith, length-map kept kind_of)) next.kind
+      next.on_from (omega arith) (λ x on before. absurd (omega arith)))
+
+  -- as many are marked
+  pub marks_counted : count_by (λ m. is_some (kind_of m)) kept ≡ count_by is_some (map kind_of kept)
+  marks_counted = counted_marks kept
+
+  pub mark_at : (n i : ℕ) → get_or (take n (map kind_of kept)) i None ≡ kind_of (get_or (take n kept) i Unlisted)
+  mark_at n i = ap (λ (l : List (Option Kind)). get_or l i None) (take-map kind_of n kept) ∙ get_or-map kind_of (take n kept) i Unlisted

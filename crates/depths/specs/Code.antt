@@ -9,6 +9,9 @@ use Rattle.section.specs.Has.{last_depth}
 use Rattle.strips.specs.declared.Range.{Range}
 use Rattle.forces.specs.Forces.{imbalance}
 use Rattle.depths.specs.declared.Kind.{Kind}
+use Rattle.depths.specs.declared.Kind.TheVariants as Kinds
+use Rattle.depths.specs.declared.list.Mark.{Mark}
+use Rattle.depths.specs.declared.list.Mark.TheVariants.{Unlisted, Zero, Pair}
 use Rattle.depths.specs.declared.walk.Listed.{Listed}
 use Rattle.depths.specs.Depths.{kind_number, kind_at}
 use Rattle.depths.specs.Answers.{last_looked}
@@ -73,7 +76,12 @@ pub record Walked (s : Section) (from looked : ℕ) (sign : Option Ordering) : T
   pub on : from ≤ open_from looked sign
   pub none : NoneTo s from (open_from looked sign)
 
--- what is kept of a depth, by its kind's number; 0 of none
+-- what is kept of a depth: the kind that its mark stands for, if any; and by the kind's number, 0 of none
+abbrev pub kind_of : Mark → Option Kind
+kind_of Unlisted = None
+kind_of Zero = Some Kinds.Zero
+kind_of Pair = Some Kinds.Pair
+
 abbrev pub kept_number : Option Kind → ℕ
 kept_number None = 0
 kept_number (Some k) = kind_number k

@@ -5,5 +5,6 @@ pub mod Places
 pub mod Made
 pub mod Load
 pub mod Put
+pub mod Held
 pub mod Placed
 pub mod Inverse

@@ -1,3 +1,4 @@
 pub mod Record
 pub mod Alone
 pub mod Filed
+pub mod Held

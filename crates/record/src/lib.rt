@@ -12,21 +12,31 @@ use section::{Layer, Section};
 use std::array;
 use std::marker::Model;
 
-// The bytes of a record, 60 at most.
-#[derive(Drop)]
+// The bytes of a record, 60 at most; zeros past them.
+#[derive(Clone, Copy)]
 pub struct RecordBytes {
     bytes: [u8; 60],
     len: usize,
 }
 
 impl Model for RecordBytes {
-    ghost use Rattle.std.specs.Prelude.{ℕ, ◌≤◌, List, length, take};
+    ghost use Rattle.std.specs.Prelude.{ℕ, List, length, take};
+    ghost use Rattle.std.proofs.Common.{length-take-le};
 
     ghost Value = { List ℕ };
 
+    ghost use Rattle.record.specs.Held.{in_places, Held};
+
     ghost view = { λ r. take r.len r.bytes };
 
-    ghost invariant = { λ r. r.len ≤ 60 };
+    ghost invariant = { Held };
+
+    ghost inverse = { λ bytes. record { bytes = in_places bytes; len = length bytes } };
+
+    ghost inverse_ok = { λ r h i. record {
+      bytes = h.past i;
+      len = length-take-le r.len r.bytes h.few i;
+    } };
 }
 
 impl RecordBytes {

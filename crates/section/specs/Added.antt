@@ -1,8 +1,11 @@
 -- Document 01, 'What a section is': a layer can also be added to a section.
-use Rattle.std.specs.Prelude.{ℕ, ◌+◌, Bool, false, not, cond, ◌||◌, List, [], ◌∷◌, ◌++◌, ltb, eqb, drop}
+use Rattle.std.specs.Prelude.{ℕ, ◌+◌, ◌≡◌, Bool, false, not, cond, ◌||◌, List, [], ◌∷◌, ◌++◌, ltb, eqb, drop, Result, Ok, Err, IfErr}
+use Rattle.refusal.specs.declared.Refusal.{Refusal}
+use Rattle.refusal.specs.Refusal.{Answers}
 use Rattle.arith.specs.Lines.{line}
 use Rattle.section.specs.declared.Layer.{Layer}
 use Rattle.section.specs.declared.Section.{Section}
+use Rattle.section.specs.declared.NotAdded.{NotAdded}
 use Rattle.section.specs.Section.{layers_of, in_range, layers_right}
 
 unfoldable pub taken : ℕ → List Layer → Bool
@@ -40,3 +43,13 @@ with_layer s l = record {
   count = s.count + 1;
   layers = inserted l (layers_of s) ++ drop (s.count + 1) s.layers;
 }
+
+-- what it is refused by, without the section beside it
+abbrev pub by_refusal : {X : Type 0} → Result X NotAdded → Result X Refusal
+by_refusal (Ok x) = Ok x
+by_refusal (Err e) = Err e.refusal
+
+-- the new section; or the number, and the section as it came
+pub record Adds (s : Section) (l : Layer) (r : Result Section NotAdded) : Type 0 where
+  pub answer : Answers (layer_refusal s l) (with_layer s l) (by_refusal r)
+  pub back : IfErr r (λ e. e.section ≡ s)

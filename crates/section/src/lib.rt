@@ -3,12 +3,12 @@
 #![tactic(auto)]
 
 ghost use Rattle.std.specs.Prelude.{◌≡◌, true, cond, ◌&&◌, ◌++◌, ◌+◌, ◌*◌, ◌-◌, ◌≤◌, ◌<◌, ltb, leb, take, nat_abs, drop, false, eqb, ◌||◌, MatchResult};
-ghost use Rattle.refusal.specs.Refusal.{number, number_of, Answers};
+ghost use Rattle.refusal.specs.Refusal.{number, number_of};
 ghost use Rattle.arith.specs.Lines.{line, within};
 ghost use Rattle.section.specs.declared.Layer.{Layer};
 ghost use Rattle.section.specs.Section.{layers_of, in_range, rise, layers_right};
 ghost use Rattle.section.specs.Refusal.{in_table, flange_right, mid_right, section_refusal};
-ghost use Rattle.section.specs.Added.{taken, layer_refusal, inserted, with_layer};
+ghost use Rattle.section.specs.Added.{taken, layer_refusal, inserted, Adds};
 ghost use Rattle.section.specs.Has.{steel_area, steel_moment, last_depth};
 
 use refusal::Refusal;
@@ -39,11 +39,26 @@ pub struct Section {
     pub layers: [Layer; 8],
 }
 
+// Why a layer is not added, and the section as it came.
+#[derive(Clone, Copy)]
+pub struct NotAdded {
+    pub refusal: Refusal,
+    pub section: Section,
+}
+
 // The layers below mid-height as one steel: their area As, and the sum of area times depth.
 #[derive(Clone, Copy)]
 pub struct Steel {
     pub area: u64,
     pub moment: u64,
+}
+
+impl From<NotAdded> for Refusal {
+    ghost from_gives = { λ e r. r ≡ e.refusal };
+
+    fn from(not_added: NotAdded) -> Refusal {
+        not_added.refusal
+    }
 }
 
 // A line of the table of refusals: it refuses where its test fails.
@@ -213,13 +228,18 @@ impl Section {
         layers
     }
 
-    // The section with a layer in its place by depth.
+    // The section with a layer in its place by depth; or 12, and the section as it came.
     #[tactic(auto, using(crate::proofs::Accepted::takes), unfolding(crate::specs::Added::with_layer))]
-    pub fn with_layer(self, depth: u16, area: u16) -> Result<Section, Refusal>
-        ensures { let l : Layer = record { depth = depth; area = area } in Answers (layer_refusal self l) (with_layer self l) result }
+    pub fn with_layer(self, depth: u16, area: u16) -> Result<Section, NotAdded>
+        ensures { Adds self (record { depth = depth; area = area }) result }
     {
         let layer = Layer { depth, area };
-        self.check_layer(layer)?;
+        if let Err(refusal) = self.check_layer(layer) {
+            return Err(NotAdded {
+                refusal,
+                section: self,
+            });
+        }
         Ok(Section {
             count: self.count + 1,
             layers: self.with_one_more(layer),

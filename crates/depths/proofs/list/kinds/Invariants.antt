@@ -2,7 +2,8 @@
 use Prim.Native.Nat.{◌<◌}
 use mathlib.Core.Path.{◌≡◌}
 use lib.ListN.{length}
-use Rattle.depths.specs.Code.{Kept}
+use Rattle.std.specs.Prelude.{map}
+use Rattle.depths.specs.Code.{kind_of, Kept}
 use Rattle.depths.specs.Walk.{open_at}
 use Rattle.depths.proofs.list.kinds.Given as goal
 
@@ -14,4 +15,4 @@ invariant-loop-listed l =
     × (length l.kinds ≡ 1000)
     × (w.lawful.section ≡ l.lawful.section)
     × (0 < open_at w)
-    × Kept l.lawful.section (open_at w) l.kinds
+    × Kept l.lawful.section (open_at w) (map kind_of l.kinds)

@@ -5,20 +5,21 @@ use mathlib.Core.List.{[], ◌∷◌, ◌++◌}
 use native.Mathlib.Omega.{arith}
 use lib.IntN.{pos}
 use lib.ListN.{length, drop, length-take}
-use Rattle.std.specs.Prelude.{Option}
+use Rattle.std.specs.Prelude.{map}
 use Rattle.arith.proofs.Machine.{read, read_pos}
 use Rattle.section.specs.Has.{last_depth}
 use Rattle.forces.specs.Forces.{moment}
-use Rattle.depths.specs.declared.Kind.{Kind}
+use Rattle.depths.specs.declared.list.Mark.{Mark}
+use Rattle.depths.specs.Code.{kind_of}
 use Rattle.depths.specs.Depths.{kind_at, list_to, words}
-use Rattle.depths.proofs.Kept.{has_none, has_some, has_kind, has_room}
+use Rattle.depths.proofs.Kept.{has_none, has_some, has_kind, has_room, mark_at}
 use Rattle.depths.proofs.Listed.{list_skips, count_more}
 use Rattle.depths.proofs.Rows.{entry_stored}
 use Rattle.depths.proofs.list.write.Goals as goal
 use Rattle.depths.proofs.list.write.Goals.{After-moment_at, in-Some, in_default}
 
-pub shared_ref_as_front-kind-items : goal.shared_ref_as_front-kind-items
-shared_ref_as_front-kind-items c = omega (arith, c.last_depth-last.ensures, c.args.lawful.now.accepted.sizes.1.1)
+pub shared_ref_as_front-mark-items : goal.shared_ref_as_front-mark-items
+shared_ref_as_front-mark-items c = omega (arith, c.last_depth-last.ensures, c.args.lawful.now.accepted.sizes.1.1)
 
 pub loop-i-init : goal.loop-i-init
 unfolding list_to words
@@ -26,14 +27,17 @@ loop-i-init c = (refl, refl)
 
 pub moment_at-requires : goal.moment_at-requires
 moment_at-requires c =
-    (omega arith, omega (arith, c.last_depth-last.ensures, length-take {A = Option Kind}))
+    (omega arith, omega (arith, c.last_depth-last.ensures, length-take {A = Mark}))
 
 -- the place of the depth among those that are gone over
 less : (c : After-moment_at) → (c.last_depth-last.result ≤ last_depth c.args.lawful.now.section) × (c.loop-i.i < c.last_depth-last.result)
-less c = (omega (arith, c.last_depth-last.ensures), omega (arith, c.loop-i-test.true, length-take {A = Option Kind}))
+less c = (omega (arith, c.last_depth-last.ensures), omega (arith, c.loop-i-test.true, length-take {A = Mark}))
 
 room : (c : After-moment_at) → c.loop-i.at + 3 ≤ length c.args.row.now
-room c = let s = c.args.lawful.now.section in has_room s c.args.kinds.now c.requires.0 (less c).0 (less c).1 c.in-Some.is c.loop-i.invariant.0 c.requires.1
+room c =
+    let s = c.args.lawful.now.section in
+    let is = mark_at c.args.kinds.now _ _ ∙ sym c.kind.ensures ∙ c.in-Some.is in
+    has_room s (map kind_of c.args.kinds.now) c.requires.0 (less c).0 (less c).1 is c.loop-i.invariant.0 c.requires.1
 
 pub overflow_add-at : goal.overflow_add-at
 overflow_add-at c = record { fits = omega (arith, room c) }
@@ -51,11 +55,13 @@ loop-i-preserved c =
     let m = moment s in
     let i = c.loop-i.invariant in
     let last : c.last_depth-last.result ≤ last_depth s = omega (arith, c.last_depth-last.ensures) in
-    let less : c.loop-i.i < c.last_depth-last.result = omega (arith, c.loop-i-test.true, length-take {A = Option Kind}) in
+    let less : c.loop-i.i < c.last_depth-last.result = omega (arith, c.loop-i-test.true, length-take {A = Mark}) in
+    let kinds = map kind_of c.args.kinds.now in
+    let there = mark_at c.args.kinds.now c.last_depth-last.result c.loop-i.i ∙ sym c.kind.ensures in
     elim c.match-kind.branch [
       | in-Some w ↦
-          let some = has_some s c.args.kinds.now c.requires.0 last less w.in-Some.is in
-          let kind = has_kind s c.args.kinds.now c.requires.0 last less w.in-Some.is in
+          let some = has_some s kinds c.requires.0 last less (there ∙ w.in-Some.is) in
+          let kind = has_kind s kinds c.requires.0 last less (there ∙ w.in-Some.is) in
           let small : c.loop-i.i + 1 < 2 ^ 63 = omega (arith, less, last, c.args.lawful.now.accepted.sizes.1.1) in
           let depth = read_pos (c.loop-i.i + 1) small in
           let number = read_pos w.from.result (omega arith) ∙ ap pos (w.from.ensures ∙ kind) in
@@ -67,7 +73,7 @@ loop-i-preserved c =
                 ∙ ap (λ n. words (list_to k m (c.loop-i.i + 1)) ++ drop n c.args.row.now) (sym w.at-is),
           )
       | in_default w ↦
-          let same = list_skips k m c.loop-i.i (has_none s c.args.kinds.now c.requires.0 last less w.in_default.is) in (
+          let same = list_skips k m c.loop-i.i (has_none s kinds c.requires.0 last less (there ∙ w.in_default.is)) in (
             w.at-is ∙ i.0 ∙ ap (λ e. 3 * length e) (sym same),
             w.row-is ∙ i.1 ∙ (λ j. words (sym same j) ++ drop (sym w.at-is j) c.args.row.now),
           )
@@ -79,5 +85,5 @@ returns c =
     let k = kind_at s in
     let m = moment s in
     let i = c.loop-i.invariant in
-    let all : c.loop-i.i ≡ last_depth s = omega (arith, c.last_depth-last.ensures, length-take {A = Option Kind}, c.args.lawful.now.accepted.sizes.1.1) in
+    let all : c.loop-i.i ≡ last_depth s = omega (arith, c.last_depth-last.ensures, length-take {A = Mark}, c.args.lawful.now.accepted.sizes.1.1) in
     i.1 ∙ (λ j. words (list_to k m (all j)) ++ drop ((i.0 ∙ ap (λ n. 3 * length (list_to k m n)) all) j) c.args.row.now)
