@@ -15,8 +15,8 @@ const LADDER: [u32; 12] = [
     1000, 1500, 2000, 2500, 3000, 3500, 4000, 4500, 5000, 6000, 7000, 8000,
 ];
 
-// The largest step that is at most fR1. The steps rise, so it is the last of these; by `filter` and `max`, or `last`, a
-// class takes half as long again or more.
+// The largest step that is at most fR1: the steps rise, so it is the last of these. By `filter` and `max` a class takes
+// two thirds longer.
 fn step_of(fr1: u32) -> Option<u32>
     ensures { MatchOption result (fr1 < 1000) (λ step. (step ≡ step_of fr1) × (1000 ≤ step) × (step ≤ fr1)) }
 {

@@ -28,7 +28,7 @@ use Rattle.std.proofs.lemmas.List.Sums.{count_by_more_no, count_by_more_yes, sum
 use native.Mathlib.Numerals.{add-one}
 use Rattle.depths.specs.declared.list.Mark.{Mark}
 use Rattle.depths.specs.declared.list.Mark.TheVariants.{Unlisted}
-use Rattle.depths.specs.Code.{open_from, NoneTo, Next, kind_of, kept_number, Kept}
+use Rattle.depths.specs.Code.{open_from, NoneTo, Next, marked, kept_number, Kept}
 
 module _ (s : Section) {depth : ℕ} (kept : List (Option Kind)) (k : Kept s depth kept) where
   pub kept_there : (i : ℕ) → i + 1 < depth → kept_number (get_or kept i None) ≡ kind_at s (i + 1)
@@ -123,33 +123,33 @@ module _ (s : Section) (kept : List (Option Kind)) (k : Kept s (last_depth s + 1
   counted (suc n) inside room = let next = counted_next n inside room (counted n (omega arith) (omega arith)) in rw add-one at next
 
 -- ---- the marks that the kinds are kept as
-none_marked : (n : ℕ) → map kind_of (replicate n Unlisted) ≡ replicate n None
+none_marked : (n : ℕ) → map marked (replicate n Unlisted) ≡ replicate n None
 none_marked zero = refl
 none_marked (suc n) = ap (λ (l : List (Option Kind)). None ∷ l) (none_marked n)
 
-pub no_mark_yet : (s : Section) (n : ℕ) → Kept s 1 (map kind_of (replicate n Unlisted))
+pub no_mark_yet : (s : Section) (n : ℕ) → Kept s 1 (map marked (replicate n Unlisted))
 no_mark_yet s n = rw (none_marked n) (none_yet s n)
 
-counted_marks : (kept : List Mark) → count_by (λ m. is_some (kind_of m)) kept ≡ count_by is_some (map kind_of kept)
+counted_marks : (kept : List Mark) → count_by (λ m. is_some (marked m)) kept ≡ count_by is_some (map marked kept)
 counted_marks [] = refl
 counted_marks (m ∷ ms) =
-    sum_by-cons (λ (n : Mark). cond (is_some (kind_of n)) 1 0) m ms ∙ ap (λ (n : ℕ). cond (is_some (kind_of m)) 1 0 + n) (counted_marks ms)
-    ∙ sym (sum_by-cons (λ (z : Option Kind). cond (is_some z) 1 0) (kind_of m) (map kind_of ms))
+    sum_by-cons (λ (n : Mark). cond (is_some (marked n)) 1 0) m ms ∙ ap (λ (n : ℕ). cond (is_some (marked m)) 1 0 + n) (counted_marks ms)
+    ∙ sym (sum_by-cons (λ (z : Option Kind). cond (is_some z) 1 0) (marked m) (map marked ms))
 
 module _ (kept : List Mark) where
   -- the walk's next depth, and none before it
   pub mark_next :
-      (s : Section) {from : ℕ} → Kept s from (map kind_of kept) → {l : Listed} {looked : ℕ} {sign : Option Ordering} → Next s from l looked sign
-      → (at : ℕ) → at + 1 ≡ l.depth → at < length kept → (m : Mark) → kind_of m ≡ Some l.kind
-      → Kept s (open_from looked sign) (map kind_of (set kept at m))
+      (s : Section) {from : ℕ} → Kept s from (map marked kept) → {l : Listed} {looked : ℕ} {sign : Option Ordering} → Next s from l looked sign
+      → (at : ℕ) → at + 1 ≡ l.depth → at < length kept → (m : Mark) → marked m ≡ Some l.kind
+      → Kept s (open_from looked sign) (map marked (set kept at m))
   mark_next s k {l} next at e room m is =
-      rw (map-set kind_of kept at m, is)
-      (kept_next s (map kind_of kept) (kept_on s (map kind_of kept) k l.depth next.on next.none) at l.kind e (omega (arith, length-map kept kind_of)) next.kind
+      rw (map-set marked kept at m, is)
+      (kept_next s (map marked kept) (kept_on s (map marked kept) k l.depth next.on next.none) at l.kind e (omega (arith, length-map kept marked)) next.kind
       next.on_from (omega arith) (λ x on before. absurd (omega arith)))
 
   -- as many are marked
-  pub marks_counted : count_by (λ m. is_some (kind_of m)) kept ≡ count_by is_some (map kind_of kept)
+  pub marks_counted : count_by (λ m. is_some (marked m)) kept ≡ count_by is_some (map marked kept)
   marks_counted = counted_marks kept
 
-  pub mark_at : (n i : ℕ) → get_or (take n (map kind_of kept)) i None ≡ kind_of (get_or (take n kept) i Unlisted)
-  mark_at n i = ap (λ (l : List (Option Kind)). get_or l i None) (take-map kind_of n kept) ∙ get_or-map kind_of (take n kept) i Unlisted
+  pub mark_at : (n i : ℕ) → get_or (take n (map marked kept)) i None ≡ marked (get_or (take n kept) i Unlisted)
+  mark_at n i = ap (λ (l : List (Option Kind)). get_or l i None) (take-map marked n kept) ∙ get_or-map marked (take n kept) i Unlisted

@@ -77,10 +77,10 @@ pub record Walked (s : Section) (from looked : ℕ) (sign : Option Ordering) : T
   pub none : NoneTo s from (open_from looked sign)
 
 -- what is kept of a depth: the kind that its mark stands for, if any; and by the kind's number, 0 of none
-abbrev pub kind_of : Mark → Option Kind
-kind_of Unlisted = None
-kind_of Zero = Some Kinds.Zero
-kind_of Pair = Some Kinds.Pair
+abbrev pub marked : Mark → Option Kind
+marked Unlisted = None
+marked Zero = Some Kinds.Zero
+marked Pair = Some Kinds.Pair
 
 abbrev pub kept_number : Option Kind → ℕ
 kept_number None = 0

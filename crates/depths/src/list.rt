@@ -4,7 +4,7 @@ ghost use Rattle.section.specs.Has.{last_depth};
 ghost use Rattle.forces.specs.Forces.{moment};
 ghost use Rattle.depths.specs.Depths.{listed, written};
 ghost use Rattle.depths.specs.declared.list.Mark.TheVariants.{Unlisted};
-ghost use Rattle.depths.specs.Code.{kind_of, Kept};
+ghost use Rattle.depths.specs.Code.{marked, Kept};
 
 use crate::Kind;
 use crate::walk::Walk;
@@ -21,7 +21,7 @@ pub(crate) enum Mark {
 
 impl Mark {
     fn of(kind: Kind) -> Mark
-        ensures { kind_of result ≡ Some kind }
+        ensures { marked result ≡ Some kind }
     {
         match kind {
             Kind::Zero => Mark::Zero,
@@ -30,7 +30,7 @@ impl Mark {
     }
 
     fn kind(self) -> Option<Kind>
-        ensures { result ≡ kind_of self }
+        ensures { result ≡ marked self }
     {
         match self {
             Mark::Unlisted => None,
@@ -51,7 +51,7 @@ fn no_kinds() -> [Mark; 1000]
 // The kind of each depth that is listed, that of depth 1 first. A struct that holds the array and what is known of it
 // was tried: the array is copied into it, and stands on the stack twice.
 pub(crate) fn kinds(lawful: &Lawful) -> [Mark; 1000]
-    ensures { Kept lawful.now.section (last_depth lawful.now.section + 1) (map kind_of result) }
+    ensures { Kept lawful.now.section (last_depth lawful.now.section + 1) (map marked result) }
 {
     let mut kinds = no_kinds();
     for listed in Walk::over(*lawful) {
@@ -69,7 +69,7 @@ pub(crate) fn moment_at(lawful: &Lawful, x: u32) -> i64
 
 // How many depths are listed.
 pub(crate) fn count(lawful: &Lawful, kinds: &[Mark; 1000]) -> u32
-    requires { Kept lawful.now.section (last_depth lawful.now.section + 1) (map kind_of kinds.now) }
+    requires { Kept lawful.now.section (last_depth lawful.now.section + 1) (map marked kinds.now) }
     ensures { (result ≡ length (listed lawful.now.section)) × (result ≤ 1000) }
 {
     let last = lawful.section.last_depth();
@@ -80,7 +80,7 @@ pub(crate) fn count(lawful: &Lawful, kinds: &[Mark; 1000]) -> u32
 // Three words for each depth: x, kind, moment. By `chunks_exact_mut`, which was tried, no proof knows what the row holds
 // afterwards.
 pub(crate) fn write(lawful: &Lawful, kinds: &[Mark; 1000], row: &mut [i64])
-    requires { (Kept lawful.now.section (last_depth lawful.now.section + 1) (map kind_of kinds.now)) × (3 * length (listed lawful.now.section) ≤ length row.old) }
+    requires { (Kept lawful.now.section (last_depth lawful.now.section + 1) (map marked kinds.now)) × (3 * length (listed lawful.now.section) ≤ length row.old) }
     ensures { row.new ≡ written (listed lawful.now.section) row.old }
 {
     let last = lawful.section.last_depth();

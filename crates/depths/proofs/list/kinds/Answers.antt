@@ -5,7 +5,7 @@ use lib.ListN.{length-set, length-replicate}
 use Rattle.std.specs.Prelude.{map}
 use Rattle.depths.specs.declared.list.Mark.{Mark}
 use Rattle.depths.specs.declared.list.Mark.TheVariants.{Unlisted}
-use Rattle.depths.specs.Code.{Next, kind_of}
+use Rattle.depths.specs.Code.{Next, marked}
 use Rattle.depths.specs.Walk.{open_at}
 use Rattle.depths.proofs.Kept.{no_mark_yet, mark_next, kept_all}
 use Rattle.depths.proofs.list.kinds.Goals as goal
@@ -38,4 +38,4 @@ loop-listed-preserved c =
 pub returns : goal.returns
 returns c =
     let i = c.loop-listed.invariant in
-    kept_all c.loop-listed.listed-iterator i.3 (map kind_of c.loop-listed.kinds) i.5 c.in-None.ensures.steps.1.1
+    kept_all c.loop-listed.listed-iterator i.3 (map marked c.loop-listed.kinds) i.5 c.in-None.ensures.steps.1.1

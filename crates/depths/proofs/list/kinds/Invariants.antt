@@ -3,7 +3,7 @@ use Prim.Native.Nat.{◌<◌}
 use mathlib.Core.Path.{◌≡◌}
 use lib.ListN.{length}
 use Rattle.std.specs.Prelude.{map}
-use Rattle.depths.specs.Code.{kind_of, Kept}
+use Rattle.depths.specs.Code.{marked, Kept}
 use Rattle.depths.specs.Walk.{open_at}
 use Rattle.depths.proofs.list.kinds.Given as goal
 
@@ -15,4 +15,4 @@ invariant-loop-listed l =
     × (length l.kinds ≡ 1000)
     × (w.lawful.section ≡ l.lawful.section)
     × (0 < open_at w)
-    × Kept l.lawful.section (open_at w) (map kind_of l.kinds)
+    × Kept l.lawful.section (open_at w) (map marked l.kinds)

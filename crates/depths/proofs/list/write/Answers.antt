@@ -10,7 +10,7 @@ use Rattle.arith.proofs.Machine.{read, read_pos}
 use Rattle.section.specs.Has.{last_depth}
 use Rattle.forces.specs.Forces.{moment}
 use Rattle.depths.specs.declared.list.Mark.{Mark}
-use Rattle.depths.specs.Code.{kind_of}
+use Rattle.depths.specs.Code.{marked}
 use Rattle.depths.specs.Depths.{kind_at, list_to, words}
 use Rattle.depths.proofs.Kept.{has_none, has_some, has_kind, has_room, mark_at}
 use Rattle.depths.proofs.Listed.{list_skips, count_more}
@@ -37,7 +37,7 @@ room : (c : After-moment_at) → c.loop-i.at + 3 ≤ length c.args.row.now
 room c =
     let s = c.args.lawful.now.section in
     let is = mark_at c.args.kinds.now _ _ ∙ sym c.kind.ensures ∙ c.in-Some.is in
-    has_room s (map kind_of c.args.kinds.now) c.requires.0 (less c).0 (less c).1 is c.loop-i.invariant.0 c.requires.1
+    has_room s (map marked c.args.kinds.now) c.requires.0 (less c).0 (less c).1 is c.loop-i.invariant.0 c.requires.1
 
 pub overflow_add-at : goal.overflow_add-at
 overflow_add-at c = record { fits = omega (arith, room c) }
@@ -56,7 +56,7 @@ loop-i-preserved c =
     let i = c.loop-i.invariant in
     let last : c.last_depth-last.result ≤ last_depth s = omega (arith, c.last_depth-last.ensures) in
     let less : c.loop-i.i < c.last_depth-last.result = omega (arith, c.loop-i-test.true, length-take {A = Mark}) in
-    let kinds = map kind_of c.args.kinds.now in
+    let kinds = map marked c.args.kinds.now in
     let there = mark_at c.args.kinds.now c.last_depth-last.result c.loop-i.i ∙ sym c.kind.ensures in
     elim c.match-kind.branch [
       | in-Some w ↦
