@@ -79,7 +79,7 @@ module _ (s : Section) where
   layer_is : (l : Layer) → layer_refusal s l ≡ 0 → LayerAdded s l (with_layer s l)
   layer_is l fits = (refl, layers_added s l, (layers_are (with_layer s l)).0 (added_right s l fits))
 
-  lawful_is : (l : Lawful) → l.section ≡ s → LawfulIs s l
+  pub lawful_is : (l : Lawful) → l.section ≡ s → LawfulIs s l
   lawful_is l same = (same, l.is ∙ ap law_of same, subst Accepted same l.accepted)
 
   point_is : (e : ℤ) → drawn_refusal s e ≡ 0 → PointIs s e (point_at (law_of s) e)

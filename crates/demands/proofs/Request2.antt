@@ -7,6 +7,8 @@ use lib.ListN.{length}
 use native.Mathlib.Omega.{arith}
 use borrow.Author.Tests.{eq-eqb, ne_eqb}
 use Rattle.std.proofs.Common.{subst}
+use Rattle.std.specs.Prelude.{Result, IfOk}
+use Rattle.refusal.specs.declared.Refusal.{Refusal}
 use Rattle.section.specs.declared.Section.{Section}
 use Rattle.section.specs.Accepted.{Accepted}
 use Rattle.section.proofs.Accepted.{accepted, accepts}
@@ -27,7 +29,7 @@ use Rattle.panel.specs.Face.{row_of}
 use Rattle.demands.specs.Request2.{TwoDepths, deepest_law, OneSteel, ListKept, FirstKept, Request2}
 use Rattle.demands.proofs.Results.{if_ok, value_is, and_so}
 use Rattle.demands.proofs.Shapes.{point_shown, imbalance_shown, moment_shown, shear_shown, first_shown, list_in, list_there}
-use Rattle.demands.proofs.Demand2.{first_is}
+use Rattle.demands.proofs.Demand2.{lawful_is, first_is}
 
 -- ---- the two depths
 module _ (s : Section) where
@@ -41,9 +43,12 @@ module _ (s : Section) where
       let with = ne_eqb s.count 0 (λ e. omega arith) in
       record { centroid = rw with; deepest = rw with; below = depth_below ok; most = depth_most ok }
 
--- of a law that has its section with it
-lawful_so : {s : Section} (P : Law → Type 0) (l : Lawful) → l.section ≡ s → P (law_of s) → P l.law
-lawful_so P l same = subst P (sym (l.is ∙ ap law_of same))
+-- of a law that has its section with it what is said of the section's law
+lawful_tells :
+    (s : Section) (P : Law → Type 0) → (Accepted s → P (law_of s)) → (x : Result Lawful Refusal)
+    → IfOk x (λ l. l.section ≡ s) → IfOk x (λ l. P l.law)
+lawful_tells s P h =
+    and_so (λ l. l.section ≡ s) (λ l. P l.law) (λ l same. let is = lawful_is s l same in subst P (sym is.1) (h is.2))
 
 -- ---- what is kept
 module _ {s : Section} (o : OneSteel s) where
@@ -88,13 +93,10 @@ request2 = record {
   without_bars = λ κs a x e p. if_ok (λ l. a.0.count ≡ 0 → (l.d ≡ a.0.h) × (l.limit ≡ a.0.h)) (λ none. without a.0) p;
   with_bars = λ κs a x e p. if_ok (λ l. 0 < a.0.count → TwoDepths a.0 l) (λ none. both a.0 (accepted a.0 none)) p;
   lawful_without_bars = λ κs a x e p.
-      let P = λ (l : Law). a.0.count ≡ 0 → (l.d ≡ a.0.h) × (l.limit ≡ a.0.h) in
-      and_so (λ l. l.section ≡ a.0) (λ l. P l.law) (λ l same. lawful_so P l same (without a.0)) x p.1;
-  lawful_with_bars = λ κs a x e p.
-      let P = λ (l : Law). 0 < a.0.count → TwoDepths a.0 l in
-      and_so (λ l. l.section ≡ a.0) (λ l. P l.law) (λ l same. lawful_so P l same (both a.0 (subst Accepted same l.accepted))) x p.1;
+      lawful_tells a.0 (λ l. a.0.count ≡ 0 → (l.d ≡ a.0.h) × (l.limit ≡ a.0.h)) (λ ok. without a.0) x p.1;
+  lawful_with_bars = λ κs a x e p. lawful_tells a.0 (λ l. 0 < a.0.count → TwoDepths a.0 l) (both a.0) x p.1;
   law_of_call = λ κs a x e p o. value_is (kept o) p;
-  lawful_of = λ κs a x e p o. and_so (λ l. l.section ≡ a.0) (λ l. l.law ≡ deepest_law a.0) (λ l same. l.is ∙ ap law_of same ∙ kept o) x p.1;
+  lawful_of = λ κs a x e p o. lawful_tells a.0 (λ l. l ≡ deepest_law a.0) (λ ok. kept o) x p.1;
   draw = λ κs a x e p o. value_is (point_kept o a.1.0) p;
   imbalance = λ κs a x e p o. value_is (imbalance_kept o a.1.0) p;
   moment = λ κs a x e p o. value_is (moment_kept o a.1.0) p;

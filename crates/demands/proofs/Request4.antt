@@ -84,7 +84,9 @@ steel_alike :
 unfolding steel_area steel_moment
 steel_alike s r a m b n = λ j. record { area = alike steel_area {s = s} refl r a b j; moment = alike steel_moment {s = s} refl r m n j }
 
-by_flat : (x : Result Section NotAdded) → by_refusal (result_map_both rectangle flat_back x) ≡ result_map_both rectangle (λ e. e) (by_refusal x)
+by_flat :
+    (x : Result Section NotAdded)
+    → by_refusal (result_map_both rectangle flat_back x) ≡ result_map_both rectangle (λ e. e) (by_refusal x)
 by_flat (Ok u) = refl
 by_flat (Err e) = refl
 
@@ -100,8 +102,9 @@ added :
 added s {t} {d = d} {a = a} {x = x} {y = y} r p q is js =
     let l : Layer = record { depth = d; area = a } in
     let layer : (j : 𝕀) → Layer = λ j. record { depth = sym p j; area = sym q j } in
-    let same = Results.alike (taken_alike s l ∙ (λ j. layer_refusal (sym r j) (layer j))) (λ none. added_alike s l ∙ (λ j. with_layer (sym r j) (layer j)))
-    (made rectangle is.answer) js.answer in
+    let refused = taken_alike s l ∙ (λ j. layer_refusal (sym r j) (layer j)) in
+    let there = added_alike s l ∙ (λ j. with_layer (sym r j) (layer j)) in
+    let same = Results.alike refused (λ none. there) (made rectangle is.answer) js.answer in
     one_added t _ y (by_flat x ∙ same) (back_flat s t x r is.back) js.back
 
 -- what is filed: refused alike, and else the same bytes

@@ -76,7 +76,8 @@ pub record Demand1 : Type 0 where
   pub check : Every.check (λ s x. ByTable (section_lines s) (number_of x))
   pub with_layer_call :
       Every.with_layer_call
-      (λ s depth area x. Refuses (layer_lines s (record { depth = depth; area = area })) (number_of (by_refusal x)) (IfErr x (λ e. e.section ≡ s)))
+      (λ s depth area x.
+      Refuses (layer_lines s (record { depth = depth; area = area })) (number_of (by_refusal x)) (IfErr x (λ e. e.section ≡ s)))
   pub law_of_call : Every.law_of_call (λ s x. ByTable (section_lines s) (number_of x))
   pub lawful_of : Every.lawful_of (λ s x. ByTable (section_lines s) (number_of x))
   pub draw : Every.draw (λ s e x. ByTable (strain_lines s e) (number_of x))

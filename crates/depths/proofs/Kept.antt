@@ -63,7 +63,8 @@ module _ (s : Section) {depth : ℕ} (kept : List (Option Kind)) (k : Kept s dep
 pub kept_next :
     (s : Section) {depth : ℕ} (kept : List (Option Kind)) → Kept s depth kept → (at : ℕ) (z : Kind) → at + 1 ≡ depth → at < length kept
     → kind_number z ≡ kind_at s depth → {from to : ℕ} → from ≡ depth + 1 → from ≤ to → NoneTo s from to → Kept s to (set kept at (Some z))
-kept_next s kept k at z e room is next h none = kept_on s (set kept at (Some z)) (kept_more s kept k at z e room is) _ (omega arith) (rw next at none)
+kept_next s kept k at z e room is next h none =
+    kept_on s (set kept at (Some z)) (kept_more s kept k at z e room is) _ (omega arith) (rw next at none)
 
 -- the walk's end
 pub kept_all :
@@ -130,26 +131,26 @@ none_marked (suc n) = ap (λ (l : List (Option Kind)). None ∷ l) (none_marked 
 pub no_mark_yet : (s : Section) (n : ℕ) → Kept s 1 (map marked (replicate n Unlisted))
 no_mark_yet s n = rw (none_marked n) (none_yet s n)
 
-counted_marks : (kept : List Mark) → count_by (λ m. is_some (marked m)) kept ≡ count_by is_some (map marked kept)
-counted_marks [] = refl
-counted_marks (m ∷ ms) =
-    sum_by-cons (λ (n : Mark). cond (is_some (marked n)) 1 0) m ms ∙ ap (λ (n : ℕ). cond (is_some (marked m)) 1 0 + n) (counted_marks ms)
+-- as many are marked
+pub marks_counted : (kept : List Mark) → count_by (λ m. is_some (marked m)) kept ≡ count_by is_some (map marked kept)
+marks_counted [] = refl
+marks_counted (m ∷ ms) =
+    sum_by-cons (λ (n : Mark). cond (is_some (marked n)) 1 0) m ms ∙ ap (λ (n : ℕ). cond (is_some (marked m)) 1 0 + n) (marks_counted ms)
     ∙ sym (sum_by-cons (λ (z : Option Kind). cond (is_some z) 1 0) (marked m) (map marked ms))
 
 module _ (kept : List Mark) where
   -- the walk's next depth, and none before it
   pub mark_next :
-      (s : Section) {from : ℕ} → Kept s from (map marked kept) → {l : Listed} {looked : ℕ} {sign : Option Ordering} → Next s from l looked sign
+      (s : Section) {from : ℕ} → Kept s from (map marked kept)
+      → {l : Listed} {looked : ℕ} {sign : Option Ordering} → Next s from l looked sign
       → (at : ℕ) → at + 1 ≡ l.depth → at < length kept → (m : Mark) → marked m ≡ Some l.kind
       → Kept s (open_from looked sign) (map marked (set kept at m))
   mark_next s k {l} next at e room m is =
+      let kinds = map marked kept in
+      let before = kept_on s kinds k l.depth next.on next.none in
       rw (map-set marked kept at m, is)
-      (kept_next s (map marked kept) (kept_on s (map marked kept) k l.depth next.on next.none) at l.kind e (omega (arith, length-map kept marked)) next.kind
-      next.on_from (omega arith) (λ x on before. absurd (omega arith)))
-
-  -- as many are marked
-  pub marks_counted : count_by (λ m. is_some (marked m)) kept ≡ count_by is_some (map marked kept)
-  marks_counted = counted_marks kept
+      (kept_next s kinds before at l.kind e (omega (arith, length-map kept marked)) next.kind next.on_from (omega arith)
+      (λ x on past. absurd (omega arith)))
 
   pub mark_at : (n i : ℕ) → get_or (take n (map marked kept)) i None ≡ marked (get_or (take n kept) i Unlisted)
   mark_at n i = ap (λ (l : List (Option Kind)). get_or l i None) (take-map marked n kept) ∙ get_or-map marked (take n kept) i Unlisted

@@ -80,7 +80,8 @@ pub(crate) fn count(lawful: &Lawful, kinds: &[Mark; 1000]) -> u32
 // Three words for each depth: x, kind, moment. By `chunks_exact_mut`, which was tried, no proof knows what the row holds
 // afterwards.
 pub(crate) fn write(lawful: &Lawful, kinds: &[Mark; 1000], row: &mut [i64])
-    requires { (Kept lawful.now.section (last_depth lawful.now.section + 1) (map marked kinds.now)) × (3 * length (listed lawful.now.section) ≤ length row.old) }
+    requires { (Kept lawful.now.section (last_depth lawful.now.section + 1) (map marked kinds.now))
+        × (3 * length (listed lawful.now.section) ≤ length row.old) }
     ensures { row.new ≡ written (listed lawful.now.section) row.old }
 {
     let last = lawful.section.last_depth();

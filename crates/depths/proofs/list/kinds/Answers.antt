@@ -31,8 +31,8 @@ loop-listed-preserved c =
       length-set c.loop-listed.kinds _ _ ∙ i.2,
       step.0 ∙ i.3,
       omega (arith, next.on_from),
-      mark_next c.loop-listed.kinds _ i.5 next _ (omega (arith, i.4, next.on)) (omega (arith, i.2, next.inside, c.args.lawful.now.accepted.sizes.1.1)) _
-          c.of.ensures,
+      mark_next c.loop-listed.kinds _ i.5 next _ (omega (arith, i.4, next.on))
+          (omega (arith, i.2, next.inside, c.args.lawful.now.accepted.sizes.1.1)) _ c.of.ensures,
     )
 
 pub returns : goal.returns
