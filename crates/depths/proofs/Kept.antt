@@ -66,6 +66,15 @@ pub kept_next :
 kept_next s kept k at z e room is next h none =
     kept_on s (set kept at (Some z)) (kept_more s kept k at z e room is) _ (omega arith) (rw next at none)
 
+-- the walk's next depth, and none before it
+pub walk_next :
+    (s : Section) {from : ℕ} (kept : List (Option Kind)) → Kept s from kept
+    → {l : Listed} {looked : ℕ} {sign : Option Ordering} → Next s from l looked sign
+    → (at : ℕ) → at + 1 ≡ l.depth → at < length kept → Kept s (open_from looked sign) (set kept at (Some l.kind))
+walk_next s kept k {l} next at e room =
+    let before = kept_on s kept k l.depth next.on next.none in
+    kept_next s kept before at l.kind e room next.kind next.on_from (omega arith) (λ x on past. absurd (omega arith))
+
 -- the walk's end
 pub kept_all :
     {s : Section} (w : Walk) → w.lawful.section ≡ s → (kept : List (Option Kind)) → Kept s (open_at w) kept
@@ -139,18 +148,14 @@ marks_counted (m ∷ ms) =
     ∙ sym (sum_by-cons (λ (z : Option Kind). cond (is_some z) 1 0) (marked m) (map marked ms))
 
 module _ (kept : List Mark) where
-  -- the walk's next depth, and none before it
+  -- the walk's next depth
   pub mark_next :
       (s : Section) {from : ℕ} → Kept s from (map marked kept)
       → {l : Listed} {looked : ℕ} {sign : Option Ordering} → Next s from l looked sign
       → (at : ℕ) → at + 1 ≡ l.depth → at < length kept → (m : Mark) → marked m ≡ Some l.kind
       → Kept s (open_from looked sign) (map marked (set kept at m))
-  mark_next s k {l} next at e room m is =
-      let kinds = map marked kept in
-      let before = kept_on s kinds k l.depth next.on next.none in
-      rw (map-set marked kept at m, is)
-      (kept_next s kinds before at l.kind e (omega (arith, length-map kept marked)) next.kind next.on_from (omega arith)
-      (λ x on past. absurd (omega arith)))
+  mark_next s k next at e room m is =
+      rw (map-set marked kept at m, is) (walk_next s (map marked kept) k next at e (omega (arith, length-map kept marked)))
 
   pub mark_at : (n i : ℕ) → get_or (take n (map marked kept)) i None ≡ marked (get_or (take n kept) i Unlisted)
   mark_at n i = ap (λ (l : List (Option Kind)). get_or l i None) (take-map marked n kept) ∙ get_or-map marked (take n kept) i Unlisted
